@@ -11,7 +11,7 @@ use tib_reached::{compose, compose_together};
 use tib_cost::{MOST, MinPlus};
 use tib_grammar::Item;
 use tib_expand::{Found, Open};
-use tib_keyed::StatePair;
+use tib_key_edges::StatePair;
 use tib_transducer::{Pair, Transducer, TransducerRule, Variable};
 use tib_tree::Label;
 

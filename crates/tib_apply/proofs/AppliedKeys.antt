@@ -13,7 +13,7 @@ use Rattle.tib_grammar.specs.declared.Rule.{Rule}
 use Rattle.tib_expand.specs.Reached.{IsReachedSet, IsBeyond, parts_of}
 use Rattle.tib_expand.specs.Reading.{AreBelow}
 use Rattle.tib_expand.specs.Keys.{key_parts}
-use Rattle.tib_keyed.proofs.Limits.{each_counts}
+use Rattle.tib_key_edges.proofs.Limits.{each_counts}
 use Rattle.tib_transducer.specs.TransducerOf.{TransducerOf}
 use Rattle.tib_apply.specs.KeyGrammars.{key_at}
 use Rattle.tib_apply.specs.Operations.{key_entries, edge_parts, key_operation, inverse_image}

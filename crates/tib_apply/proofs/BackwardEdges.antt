@@ -39,7 +39,7 @@ use Rattle.tib_apply.specs.Listing.{AddsEdge, IsNext, IsTooMuch, IsWithinBudget,
 use Rattle.tib_apply.specs.BackwardLists.{edge_to, backward_edge, variable_key, number_from, AdmitsRule, IsCheap}
 use Rattle.tib_apply.specs.declared.edge_list.EdgeList.{EdgeList}
 use Rattle.tib_apply.proofs.ListedEdges.{listed_next, overruns_next, nothing_listed}
-use Rattle.tib_keyed.proofs.MappedSides.{side_twice, size_mapped, items_size}
+use Rattle.tib_key_edges.proofs.MappedSides.{side_twice, size_mapped, items_size}
 use Rattle.tib_apply.proofs.MappedSides.{carried_holes, carried_mapped}
 use Rattle.tib_apply.proofs.MoreParts.{origins_apart, total_same, more_parts}
 

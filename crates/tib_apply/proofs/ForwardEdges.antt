@@ -37,9 +37,9 @@ use Rattle.tib_apply.specs.Restrictions.{restricted_labels, Admits}
 use Rattle.tib_apply.specs.KeyGrammars.{key_at}
 use Rattle.tib_apply.specs.Forward.{forward_key, deleted}
 use Rattle.tib_apply.specs.ForwardPlans.{end_at, planned_end, left_out, asked_at, IsPlan, ArePlans, HasPlans}
-use Rattle.tib_keyed.specs.Listing.{IsListed, Overruns, AreListedFrom, IsAdded}
-use Rattle.tib_keyed.proofs.MappedSides.{size_mapped}
-use Rattle.tib_keyed.proofs.Listed.{listed_passed, listed_added, overruns_next, listed_first}
+use Rattle.tib_key_edges.specs.Listing.{IsListed, Overruns, AreListedFrom, IsAdded}
+use Rattle.tib_key_edges.proofs.MappedSides.{size_mapped}
+use Rattle.tib_key_edges.proofs.Listed.{listed_passed, listed_added, overruns_next, listed_first}
 use Rattle.tib_apply.specs.Operations.{edge_parts}
 use Rattle.tib_apply.specs.ForwardLists.{HoleStatesBelow, IsAtMatch, IsAffordable, ListsOrigin, OriginOverruns, ListsRule, RuleOverruns, HasRule}
 use Rattle.tib_apply.specs.LeastRuns.{deleted_in}

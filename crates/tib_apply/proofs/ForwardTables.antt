@@ -10,7 +10,7 @@ use Rattle.tib_cost.proofs.Least.{IsLeast-one, IsLeast-products, IsLeast-unique}
 use Rattle.tib_lex.proofs.Lists.{length_map}
 use Rattle.tib_expand.specs.Reached.{AfterRounds, IsNew, AreEdges, IsReachedSet, IsBeyond}
 use Rattle.tib_expand.specs.Keys.{key_parts}
-use Rattle.tib_keyed.proofs.Limits.{each_counts}
+use Rattle.tib_key_edges.proofs.Limits.{each_counts}
 use Rattle.tib_expand.proofs.Members.{Lists-to}
 use Rattle.tib_transducer.specs.TransducerOf.{TransducerOf}
 use Rattle.tib_transducer.specs.Rules.{transducer_rule, variables_of, variables_in}

@@ -20,7 +20,7 @@ use Rattle.tib_apply.specs.KeyRules.{carried, places_of, read_places, end_at, Re
 use Rattle.tib_apply.specs.KeyLaws.{side_same}
 use Rattle.tib_apply.specs.Listing.{AddsEdge, IsNext, IsTooMuch, IsWithinBudget, IsAlike, IsListed, Overruns, AreListedFrom}
 use Rattle.tib_apply.specs.declared.edge_list.EdgeList.{EdgeList}
-use Rattle.tib_keyed.proofs.Reading.{both_ends}
+use Rattle.tib_key_edges.proofs.Reading.{both_ends}
 
 along_weaker : {A B : Type 0} (R S : A → B → Type 0) → ((x : A) (y : B) → R x y → S x y) → (xs : List A) (ys : List B) → Along R xs ys → Along S xs ys
 along_weaker R S f [] [] a = tt

@@ -11,7 +11,7 @@ use Rattle.tib_grammar.specs.GrammarOf.{named_rule}
 use Rattle.tib_expand.specs.declared.place.Place.TheVariants.{End}
 use Rattle.tib_expand.specs.EdgeLists.{IsWithin, position_of}
 use Rattle.std.specs.Prelude.{slice_index}
-use Rattle.tib_keyed.proofs.MappedSides.{side_twice}
+use Rattle.tib_key_edges.proofs.MappedSides.{side_twice}
 use Rattle.tib_apply.specs.KeyRules.{carried, places_of, read_places, positions_of}
 
 -- where holes are leaves, what is carried is what the holes carry

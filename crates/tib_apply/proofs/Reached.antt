@@ -17,7 +17,7 @@ use Rattle.tib_apply.specs.KeyGrammars.{key_at, IsKeyGrammar}
 use Rattle.tib_apply.specs.Operations.{key_cmp, key_entries, edge_parts, key_operation, IsOneSet}
 use Rattle.tib_apply.specs.Forward.{IsForwardEdge}
 use Rattle.tib_apply.specs.Backward.{IsBackwardEdge}
-use Rattle.tib_keyed.proofs.KeyOrders.{order_begins, order_once, edges_below, one_set}
+use Rattle.tib_key_edges.proofs.KeyOrders.{order_begins, order_once, edges_below, one_set}
 use Rattle.tib_apply.specs.BackwardLaws.{same_rule}
 
 pub key_total : IsTotalOrder key_cmp

@@ -3,7 +3,7 @@ use Rattle.std.specs.Prelude.{◌≡◌, ℕ, List, length, map}
 use Rattle.tib_grammar.specs.GrammarOf.{named_rule}
 use Rattle.tib_grammar.specs.Range.{AreInRange}
 use Rattle.tib_grammar.specs.declared.Rule.{Rule}
-use Rattle.tib_expand.specs.Reached.{Operation, IsReachedSet, parts_of}
+use Rattle.tib_expand.specs.Reached.{Exploration, IsReachedSet, parts_of}
 use Rattle.tib_expand.specs.declared.found.Found.{Found}
 use Rattle.tib_transducer.specs.declared.TransducerRule.{TransducerRule}
 use Rattle.tib_transducer.specs.Outside.{Demands, AllMeet, IsFirstOutside}
@@ -16,11 +16,11 @@ abbrev pub edges_of : Found (ℕ × ℕ × ℕ) (Rule ℕ) → List (Rule (ℕ �
 edges_of found = map (named_rule (key_at found.order.items)) found.rules.items
 
 -- the order and the edges are the reached set of what is hunted
-abbrev pub IsReachedBy : {O : Type 0} → Operation (ℕ × ℕ × ℕ) O (Rule (ℕ × ℕ × ℕ)) → Found (ℕ × ℕ × ℕ) (Rule ℕ) → Type 0
+abbrev pub IsReachedBy : {O : Type 0} → Exploration (ℕ × ℕ × ℕ) O (Rule (ℕ × ℕ × ℕ)) → Found (ℕ × ℕ × ℕ) (Rule ℕ) → Type 0
 IsReachedBy op found = IsReachedSet op found.order.items (edges_of found)
 
 -- the parts are those of the keys and of the edges
-abbrev pub HasPartsOf : {O : Type 0} → Operation (ℕ × ℕ × ℕ) O (Rule (ℕ × ℕ × ℕ)) → Found (ℕ × ℕ × ℕ) (Rule ℕ) → Type 0
+abbrev pub HasPartsOf : {O : Type 0} → Exploration (ℕ × ℕ × ℕ) O (Rule (ℕ × ℕ × ℕ)) → Found (ℕ × ℕ × ℕ) (Rule ℕ) → Type 0
 HasPartsOf op found = found.parts ≡ parts_of op found.order.items (edges_of found)
 
 -- the rules are over positions of the order

@@ -19,11 +19,11 @@ use Rattle.tib_apply.specs.KeyGrammars.{key_at}
 use Rattle.tib_apply.specs.Forward.{forward_key}
 use Rattle.tib_apply.specs.ForwardLists.{HoleStatesBelow}
 use Rattle.tib_apply.specs.ForwardRules.{forward_reading}
-use Rattle.tib_keyed.specs.SideRuleLaws.{reads_places, reads_positions}
+use Rattle.tib_key_edges.specs.SideRuleLaws.{reads_places, reads_positions}
 use Rattle.tib_apply.specs.Operations.{key_cmp, key_entries}
 use Rattle.tib_apply.specs.TableEdges.{IsTableEdge, table_image}
 use Rattle.tib_apply.specs.declared.deleting.LeastRuns.{LeastRuns}
-use Rattle.tib_keyed.proofs.KeyOrders.{key_stays}
+use Rattle.tib_key_edges.proofs.KeyOrders.{key_stays}
 
 -- an origin gives one edge
 pub same_table_edge :

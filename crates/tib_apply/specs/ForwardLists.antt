@@ -13,7 +13,7 @@ use Rattle.tib_apply.specs.Restrictions.{restricted_labels, Admits}
 use Rattle.tib_apply.specs.Forward.{deleted}
 use Rattle.tib_apply.specs.LeastRuns.{deleted_in}
 use Rattle.tib_apply.specs.declared.deleting.LeastRuns.{LeastRuns}
-use Rattle.tib_keyed.specs.Listing.{IsListed, Overruns, GetsOrigin, IsBeyond, HasEdges, AreBeyond}
+use Rattle.tib_key_edges.specs.Listing.{IsListed, Overruns, GetsOrigin, IsBeyond, HasEdges, AreBeyond}
 use Rattle.tib_apply.specs.ForwardRules.{ForwardListing}
 
 -- the states in the right-hand sides of the rules are below a number

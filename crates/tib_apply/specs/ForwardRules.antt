@@ -3,9 +3,9 @@ use Rattle.std.specs.Prelude.{ℕ}
 use Rattle.tib_grammar.specs.declared.Rule.{Rule}
 use Rattle.tib_expand.specs.Reading.{Reading}
 use Rattle.tib_transducer.specs.declared.Pair.{Pair}
-use Rattle.tib_keyed.specs.declared.side_rule.SideRule.{SideRule}
-use Rattle.tib_keyed.specs.declared.side_listing.SideListing.{SideListing}
-use Rattle.tib_keyed.specs.SideRules.{side_reading}
+use Rattle.tib_key_edges.specs.declared.side_rule.SideRule.{SideRule}
+use Rattle.tib_key_edges.specs.declared.side_listing.SideListing.{SideListing}
+use Rattle.tib_key_edges.specs.SideRules.{side_reading}
 
 -- a list of edges to right-hand sides
 abbrev pub ForwardListing : Type 0

@@ -10,7 +10,7 @@ use Rattle.tib_grammar.specs.declared.Rule.{Rule}
 use Rattle.tib_expand.specs.declared.place.Place.{Place}
 use Rattle.tib_expand.specs.declared.place.Place.TheVariants.{Known, End}
 use Rattle.tib_expand.specs.Lawful.{IsLawful}
-use Rattle.tib_keyed.proofs.KeyOrders.{key_stays}
+use Rattle.tib_key_edges.proofs.KeyOrders.{key_stays}
 use Rattle.tib_apply.specs.KeyGrammars.{key_at}
 use Rattle.tib_apply.specs.Operations.{key_cmp, key_entries, key_operation}
 use Rattle.tib_apply.specs.KeyRules.{carried, places_of, read_places, positions_of, key_reading}

@@ -9,8 +9,8 @@ use Rattle.tib_grammar.specs.Sides.{holes_of}
 use Rattle.tib_grammar.specs.Range.{AreInRange}
 use Rattle.tib_grammar.specs.GrammarOf.{named_rule}
 use Rattle.tib_grammar.specs.declared.Rule.{Rule}
-use Rattle.tib_expand.specs.Reached.{Operation, IsReachedSet}
-use Rattle.tib_keyed.specs.Keyed.{keyed}
+use Rattle.tib_expand.specs.Reached.{Exploration, IsReachedSet}
+use Rattle.tib_key_edges.specs.Keyed.{keyed}
 use Rattle.tib_expand.specs.Keys.{key_parts}
 use Rattle.tib_transducer.specs.declared.TransducerRule.{TransducerRule}
 use Rattle.tib_apply.specs.KeyGrammars.{key_at, IsKeyGrammar}
@@ -34,14 +34,14 @@ abbrev pub edge_parts : Rule (ℕ × ℕ × ℕ) → ℕ
 edge_parts e = 1 + size e.right
 
 -- From the key of the starts each key leads on along its edges.
-abbrev pub key_operation : {O : Type 0} → (ℕ × ℕ × ℕ → O → Rule (ℕ × ℕ × ℕ) → Type 0) → Operation (ℕ × ℕ × ℕ) O (Rule (ℕ × ℕ × ℕ))
+abbrev pub key_operation : {O : Type 0} → (ℕ × ℕ × ℕ → O → Rule (ℕ × ℕ × ℕ) → Type 0) → Exploration (ℕ × ℕ × ℕ) O (Rule (ℕ × ℕ × ℕ))
 key_operation Edge =
     keyed key_cmp (0, 0, 0) Edge (λ e. holes_of e.right) (key_parts key_entries) edge_parts
 
-abbrev pub forward_image : (ℕ → ℕ → ℕ) → List (Rule ℕ) → List (TransducerRule ℕ) → Operation (ℕ × ℕ × ℕ) (ℕ × List ℕ) (Rule (ℕ × ℕ × ℕ))
+abbrev pub forward_image : (ℕ → ℕ → ℕ) → List (Rule ℕ) → List (TransducerRule ℕ) → Exploration (ℕ × ℕ × ℕ) (ℕ × List ℕ) (Rule (ℕ × ℕ × ℕ))
 forward_image product grammar moves = key_operation (IsForwardEdge product grammar moves)
 
-abbrev pub inverse_image : (ℕ → ℕ → ℕ) → List (TransducerRule ℕ) → List (Rule ℕ) → Operation (ℕ × ℕ × ℕ) (ℕ × List ℕ) (Rule (ℕ × ℕ × ℕ))
+abbrev pub inverse_image : (ℕ → ℕ → ℕ) → List (TransducerRule ℕ) → List (Rule ℕ) → Exploration (ℕ × ℕ × ℕ) (ℕ × List ℕ) (Rule (ℕ × ℕ × ℕ))
 inverse_image product moves grammar = key_operation (IsBackwardEdge product moves grammar)
 
 -- the reached sets, as rules over the positions of their orders, are the grammars of the reached
@@ -57,7 +57,7 @@ BackwardIsReached product =
     IsReachedSet (inverse_image product moves grammar) order (map (named_rule (key_at order)) rules) → IsKeyGrammar (IsBackwardEdge product moves grammar) order rules
 
 -- two reached sets have the same keys, in the same order, and the same edges
-abbrev pub IsOneSet : Operation (ℕ × ℕ × ℕ) (ℕ × List ℕ) (Rule (ℕ × ℕ × ℕ)) → Type 0
+abbrev pub IsOneSet : Exploration (ℕ × ℕ × ℕ) (ℕ × List ℕ) (Rule (ℕ × ℕ × ℕ)) → Type 0
 IsOneSet op =
     (order other : List (ℕ × ℕ × ℕ)) (edges more : List (Rule (ℕ × ℕ × ℕ))) → IsReachedSet op order edges → IsReachedSet op other more →
     (order ≡ other) × ((e : Rule (ℕ × ℕ × ℕ)) → Has edges e → Has more e)

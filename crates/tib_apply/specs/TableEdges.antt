@@ -3,7 +3,7 @@ use Rattle.std.specs.Prelude.{◌≡◌, ◌↔◌, ℕ, ◌<◌, ◌≤◌, Lis
 use Rattle.tib_grammar.specs.Sides.{label, side_map}
 use Rattle.tib_grammar.specs.declared.Rule.{Rule}
 use Rattle.tib_cost.specs.Semiring.{most}
-use Rattle.tib_expand.specs.Reached.{Operation, IsReachedSet}
+use Rattle.tib_expand.specs.Reached.{Exploration, IsReachedSet}
 use Rattle.tib_transducer.specs.Rules.{transducer_rule, variables_of, variables_in}
 use Rattle.tib_transducer.specs.declared.TransducerRule.{TransducerRule}
 use Rattle.tib_match.specs.Matches.{IsMatch}
@@ -33,7 +33,7 @@ pub record IsTableEdge (product : ℕ → ℕ → ℕ) (grammar : List (Rule ℕ
   pub within : e.cost ≤ most
 
 -- this as what is hunted
-abbrev pub table_image : (ℕ → ℕ → ℕ) → List (Rule ℕ) → List (TransducerRule ℕ) → LeastRuns → Operation (ℕ × ℕ × ℕ) (ℕ × List ℕ) (Rule (ℕ × ℕ × ℕ))
+abbrev pub table_image : (ℕ → ℕ → ℕ) → List (Rule ℕ) → List (TransducerRule ℕ) → LeastRuns → Exploration (ℕ × ℕ × ℕ) (ℕ × List ℕ) (Rule (ℕ × ℕ × ℕ))
 table_image product grammar moves runs = key_operation (IsTableEdge product grammar moves runs)
 
 -- the edges of the tables are those of forward application, and what is reached along them is the

@@ -10,7 +10,7 @@ ghost use Rattle.tib_expand.specs.Reached.{most_parts};
 ghost use Rattle.tib_transducer.specs.Rules.{transducer_rule};
 ghost use Rattle.tib_apply.specs.Restrictions.{restricted_labels, Admits};
 ghost use Rattle.tib_apply.specs.TableEdges.{IsTableEdge};
-ghost use Rattle.tib_keyed.specs.Listing.{IsWithinBudget};
+ghost use Rattle.tib_key_edges.specs.Listing.{IsWithinBudget};
 ghost use Rattle.tib_match.specs.Searching.{AreMatchesWhere, AreMoreWhere};
 ghost use Rattle.tib_apply.specs.ForwardLists.{HoleStatesBelow, IsAtMatch, IsAffordable, ListsOrigin, OriginOverruns, ListsRule, RuleOverruns, ListsKey, KeyOverruns};
 ghost use Rattle.tib_apply.specs.ForwardPlans.{asked_at, HasPlans};

@@ -4,7 +4,7 @@ ghost use Rattle.std.specs.Prelude.{◌≡◌, ◌+◌, ◌<◌, ◌++◌, lengt
 ghost use Rattle.tib_lex.specs.Lists.{Each};
 ghost use Rattle.tib_tree.specs.Trees.{size};
 ghost use Rattle.tib_grammar.specs.Sides.{holes_of};
-ghost use Rattle.tib_keyed.specs.Listing.{IsAdded, IsWithinBudget};
+ghost use Rattle.tib_key_edges.specs.Listing.{IsAdded, IsWithinBudget};
 ghost use Rattle.tib_apply.specs.ForwardPlans.{end_at};
 
 use crate::forward_plan::PlannedEnd;
@@ -13,7 +13,7 @@ use std::alloc::AllocError;
 use tib_cost::Cost;
 use tib_grammar::Side;
 use tib_expand::ExpandError;
-use tib_keyed::{SideListing, SideRule};
+use tib_key_edges::{SideListing, SideRule};
 use tib_transducer::Pair;
 
 /// An edge over places: it leads to the right-hand side of a rule of the transducer.

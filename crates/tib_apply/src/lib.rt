@@ -3,7 +3,7 @@
 //! grammar, each at the least cost. What is defined and proved of both is here, for every semiring.
 //! `apply_forward` and `apply_backward` find what is reached by one worker,
 //! `apply_forward_together` and `apply_backward_together` by several. It builds on
-//! `tib_transducer`, `tib_match`, `tib_inside`, `tib_hunt` and `tib_keyed`.
+//! `tib_transducer`, `tib_match`, `tib_inside`, `tib_hunt` and `tib_key_edges`.
 #![tactic(auto)]
 
 mod backward;

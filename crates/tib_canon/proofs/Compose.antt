@@ -15,7 +15,7 @@ use Rattle.tib_grammar.specs.Sides.{Symbol, label, hole, holes, holes_of, HolesA
 use Rattle.tib_grammar_file.specs.Printable.{IsPlainCost}
 use Rattle.tib_expand.specs.Keys.{key_parts}
 use Rattle.tib_expand.specs.Reached.{IsReached, IsReachedSet}
-use Rattle.tib_keyed.proofs.KeyOrders.{order_begins}
+use Rattle.tib_key_edges.proofs.KeyOrders.{order_begins}
 use Rattle.tib_transducer.specs.Range.{AreNumbered, IsShaped, AreShaped}
 use Rattle.tib_transducer.specs.Rules.{transducer_rule, no_rule, states_in, variables_in, variables_of}
 use Rattle.tib_transducer.specs.Run.{pick}
@@ -30,14 +30,14 @@ use Rattle.tib_canon.proofs.ConstructionExists.{few_keys}
 use Rattle.tib_canon.proofs.ReachedOnce.{edge_given, ends_stand}
 use Rattle.tib_canon.proofs.SeriesByName.{one_series, text_states, canonical_states}
 use Rattle.tib_canon.proofs.Sorting.{both_equal, number_same}
-use Rattle.tib_keyed.specs.Plain.{ArePlain}
-use Rattle.tib_keyed.specs.Translations.{plug, AreTranslations, translated, choice_cost}
-use Rattle.tib_keyed.specs.Composing.{IsComposeEdge, IsComposite}
-use Rattle.tib_keyed.specs.Composition.{ends_of, edge_parts, composition}
-use Rattle.tib_keyed.proofs.Composed.{is_composed}
-use Rattle.tib_keyed.proofs.Exact.{composition_laws, reached_is_composite}
-use Rattle.tib_keyed.proofs.Flattened.{translations_end_in_holes}
-use Rattle.tib_keyed.proofs.Standing.{variables_translated, variables_each}
+use Rattle.tib_key_edges.specs.Plain.{ArePlain}
+use Rattle.tib_key_edges.specs.Translations.{plug, AreTranslations, translated, choice_cost}
+use Rattle.tib_key_edges.specs.Composing.{IsComposeEdge, IsComposite}
+use Rattle.tib_key_edges.specs.Composition.{ends_of, edge_parts, composition}
+use Rattle.tib_key_edges.proofs.Composed.{is_composed}
+use Rattle.tib_key_edges.proofs.Exact.{composition_laws, reached_is_composite}
+use Rattle.tib_key_edges.proofs.Flattened.{translations_end_in_holes}
+use Rattle.tib_key_edges.proofs.Standing.{variables_translated, variables_each}
 use Rattle.tib_canon.specs.Composing.{composing, HasComposeSeries, HasComposeText}
 use Rattle.tib_canon.specs.TransducerConstructions.{IsCanonicalTransducerOf}
 use Rattle.tib_canon.specs.TransducerKeys.{AreMovesOver}

@@ -17,10 +17,10 @@ use Rattle.tib_transducer.specs.declared.Pair.{Pair}
 use Rattle.tib_transducer.specs.declared.TransducerRule.{TransducerRule}
 use Rattle.tib_transducer_file.specs.ByText.{AreOneTransducerRule, AreOneTransducer}
 use Rattle.tib_canon.proofs.ReachedAlike.{Correspond, reached_alike}
-use Rattle.tib_keyed.specs.Translations.{plug, IsOver, AreTranslations, translated, choice_cost}
-use Rattle.tib_keyed.specs.Composing.{IsComposeEdge}
-use Rattle.tib_keyed.specs.Composition.{composition}
-use Rattle.tib_keyed.proofs.Exact.{composition_laws, same_edge}
+use Rattle.tib_key_edges.specs.Translations.{plug, IsOver, AreTranslations, translated, choice_cost}
+use Rattle.tib_key_edges.specs.Composing.{IsComposeEdge}
+use Rattle.tib_key_edges.specs.Composition.{composition}
+use Rattle.tib_key_edges.proofs.Exact.{composition_laws, same_edge}
 use Rattle.tib_canon.specs.Composing.{composing, HasComposeText}
 use Rattle.tib_canon.proofs.TransducerConstruct.{transducer_construction_once}
 use Rattle.tib_canon.proofs.Relabelled.{left_with, right_with, move_with, moves_with, pairs_kept, move_given}

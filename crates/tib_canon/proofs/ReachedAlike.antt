@@ -6,7 +6,7 @@ use Rattle.std.specs.declared.cmp.Ordering.TheVariants.{Less}
 use Rattle.tib_lex.specs.Lists.{Has, Ascends, Along, Distinct}
 use Rattle.tib_lex.proofs.Lists.{has_mapped, mapped_has}
 use Rattle.tib_expand.specs.EdgeLists.{Lists}
-use Rattle.tib_expand.specs.Reached.{Operation, IsNew, AreAscending, AfterRounds, AreEdges, IsReachedSet}
+use Rattle.tib_expand.specs.Reached.{Exploration, IsNew, AreAscending, AfterRounds, AreEdges, IsReachedSet}
 
 -- The edges that `Gives` gives and those that `Tells` gives correspond under f: an edge of the one
 -- goes to one of the other, with the same origin, and each of the other comes from one.
@@ -16,7 +16,7 @@ pub record Correspond {O E : Type 0} (f : E → E) (Gives Tells : O → E → Ty
 
 -- The problems have one order of keys and the same seeds, and their edges correspond and end at the
 -- same keys.
-pub record AreProblemsAlike {K O E : Type 0} (f : E → E) (p q : Operation K O E) : Type 0 where
+pub record AreProblemsAlike {K O E : Type 0} (f : E → E) (p q : Exploration K O E) : Type 0 where
   pub cmp : p.cmp ≡ q.cmp
   pub seed_to : (k : K) → p.seed k → q.seed k
   pub seed_from : (k : K) → q.seed k → p.seed k
@@ -29,7 +29,7 @@ pub record CorrespondBy {O E : Type 0} (on : O → O) (f : E → E) (Gives Tells
   pub to : (o : O) (e : E) → Gives o e → Tells (on o) (f e)
   pub from : (o : O) (e : E) → Tells o e → (origin : O) × (old : E) × (o ≡ on origin) × (e ≡ f old) × Gives origin old
 
-pub record AreProblemsRenamed {K O E : Type 0} (on : O → O) (f : E → E) (p q : Operation K O E) : Type 0 where
+pub record AreProblemsRenamed {K O E : Type 0} (on : O → O) (f : E → E) (p q : Exploration K O E) : Type 0 where
   pub apart : (o r : O) → on o ≡ on r → o ≡ r
   pub cmp : p.cmp ≡ q.cmp
   pub seed_to : (k : K) → p.seed k → q.seed k
@@ -63,7 +63,7 @@ module _ {O E : Type 0} (on : O → O) (apart : (o r : O) → on o ≡ on r → 
     whole = λ o x g. let r = c.from o x g in subst (Has (map on l.origins)) (sym r.2) (mapped_has on l.origins r.0 (l.whole r.0 r.1 r.4));
   }
 
-module _ {K O E : Type 0} (on : O → O) (f : E → E) (p q : Operation K O E) (a : AreProblemsRenamed on f p q) where
+module _ {K O E : Type 0} (on : O → O) (f : E → E) (p q : Exploration K O E) (a : AreProblemsRenamed on f p q) where
   new_to : (order : List K) (expanded : ℕ) (k : K) → IsNew p order expanded k → IsNew q order expanded k
   new_to order expanded k ((i, from, below, (o, e, is, has)), out) =
       ((i, from, below, (on o, f e, (a.edges order i).to o e is, subst (λ (ks : List K). Has ks k) (sym (a.ends e)) has)), out)
@@ -107,7 +107,7 @@ module _ {K O E : Type 0} (on : O → O) (f : E → E) (p q : Operation K O E) (
   )
 
 -- the same with the same origins
-pub reached_alike : {K O E : Type 0} (f : E → E) (p q : Operation K O E) → AreProblemsAlike f p q → (order : List K) (es : List E) → IsReachedSet p order es → IsReachedSet q order (map f es)
+pub reached_alike : {K O E : Type 0} (f : E → E) (p q : Exploration K O E) → AreProblemsAlike f p q → (order : List K) (es : List E) → IsReachedSet p order es → IsReachedSet q order (map f es)
 reached_alike {O = O} {E = E} f p q a =
     reached_renamed (λ o. o) f p q (record {
       apart = λ o r e. e;

@@ -6,7 +6,7 @@ use Rattle.std.specs.Ordering.{ordering_reverse}
 use Rattle.tib_expand.proofs.Members.{distinct_append}
 use Rattle.tib_lex.specs.Lists.{Has, Distinct, Ascends, Along}
 use Rattle.tib_expand.specs.EdgeLists.{Lists}
-use Rattle.tib_expand.specs.Reached.{Operation, AfterRounds, IsReached, AreEdges, IsReachedSet}
+use Rattle.tib_expand.specs.Reached.{Exploration, AfterRounds, IsReached, AreEdges, IsReachedSet}
 use Rattle.tib_expand.proofs.Reaching.{Laws, apart, in_reached}
 use Rattle.tib_lex.proofs.Members.{each_has, has_either, has_left, has_right}
 
@@ -35,7 +35,7 @@ module _ {O A : Type 0} (Gives : O → A → Type 0) where
   pub listed_given : (xs : List A) → Lists Gives xs → (x : A) → Has xs x → (o : O) × Gives o x
   listed_given xs l x h = origin_of l.origins xs x l.given h
 
-module _ {K O E : Type 0} (p : Operation K O E) (laws : Laws p) where
+module _ {K O E : Type 0} (p : Exploration K O E) (laws : Laws p) where
   pub same_order : (order other : List K) → IsReached p order → IsReached p other → order ≡ other
   same_order order other h k =
       let a = (in_reached p laws h.0 h.1 order h.2 other k).0 in

@@ -17,7 +17,7 @@ use Rattle.tib_transducer.specs.NamedPairs.{named_pair}
 use Rattle.tib_transducer_file.specs.ByText.{AskForOneText, AreOneVariable, AgreeOnLeft, AgreeOnRight, AreOneTransducerRule}
 use Rattle.tib_transducer_file.specs.ByName.{line_text}
 use Rattle.tib_transducer_file.specs.Printed.{label_text, asked_text, variable_text, pair_text, symbol_text, trees_text, side_text}
-use Rattle.tib_keyed.specs.Named.{named_transducer_rule}
+use Rattle.tib_key_edges.specs.Named.{named_transducer_rule}
 
 -- a rule with each label exchanged for another
 

@@ -27,9 +27,9 @@ use Rattle.tib_transducer_file.specs.TransducerText.{TransducerText}
 use Rattle.tib_transducer_file.specs.Value.{IsRule, states_of}
 use Rattle.tib_transducer_file.proofs.ReadStates.{rule_ends}
 use Rattle.tib_transducer_file.proofs.ShapesRead.{rules_within}
-use Rattle.tib_keyed.specs.Named.{named_transducer_rule}
-use Rattle.tib_keyed.specs.Numbering.{AreRenumbered}
-use Rattle.tib_keyed.proofs.Numbered.{numbered_series}
+use Rattle.tib_key_edges.specs.Named.{named_transducer_rule}
+use Rattle.tib_key_edges.specs.Numbering.{AreRenumbered}
+use Rattle.tib_key_edges.proofs.Numbered.{numbered_series}
 use Rattle.tib_canon.specs.TransducerKeys.{IsCanonicalTransducer, AreMovesOver}
 use Rattle.tib_canon.specs.TransducerLaws.{HasNamedStates}
 use Rattle.tib_canon.proofs.Merged.{kept_within, kept_leaves}

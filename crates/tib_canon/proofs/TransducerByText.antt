@@ -27,7 +27,7 @@ use Rattle.tib_transducer.specs.NamedPairs.{named_pair}
 use Rattle.tib_transducer_file.specs.ByText.{AskForOneText, AgreeOnLeft, AgreeOnRight, AreOneTransducerRule}
 use Rattle.tib_transducer_file.specs.ByName.{line_text}
 use Rattle.tib_transducer_file.specs.Printed.{rule_text, rules_text, transducer_text}
-use Rattle.tib_keyed.specs.Named.{named_transducer_rule}
+use Rattle.tib_key_edges.specs.Named.{named_transducer_rule}
 use Rattle.tib_canon.specs.TransducerKeys.{IsTransducerOverKeys, IsCanonicalTransducer}
 use Rattle.tib_canon.specs.TransducerLaws.{AreOneByText}
 use Rattle.tib_canon.specs.Ordered.{move_cmp, AgreeInSides, HasSides, IsTransducerInOrder}

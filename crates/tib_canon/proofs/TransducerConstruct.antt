@@ -17,7 +17,7 @@ use Rattle.tib_grammar.specs.Sides.{Symbol, label, hole, symbol_map, side_map}
 use Rattle.tib_grammar.proofs.Below.{below_has}
 use Rattle.tib_grammar_file.specs.Printable.{IsPlainCost}
 use Rattle.tib_grammar_file.proofs.Renumbering.{Renumbers}
-use Rattle.tib_expand.specs.Reached.{Operation, AfterRounds, IsReached, AreEdges, IsReachedSet, parts_of}
+use Rattle.tib_expand.specs.Reached.{Exploration, AfterRounds, IsReached, AreEdges, IsReachedSet, parts_of}
 use Rattle.tib_expand.proofs.Reaching.{Laws}
 use Rattle.tib_inside.proofs.Chosen.{distinct_at}
 use Rattle.tib_transducer.specs.Range.{IsWithin, AreWithin, IsShaped, EndsInHoles, EndInHoles}
@@ -33,7 +33,7 @@ use Rattle.tib_canon.proofs.ConstructionExists.{few_keys}
 use Rattle.tib_canon.proofs.PlacesIn.{place_in, stands_at, map_itself}
 use Rattle.tib_canon.proofs.ReachedOnce.{one_set, order_once, key_same, reached_apart}
 use Rattle.tib_transducer.specs.NamedPairs.{named_pair}
-use Rattle.tib_keyed.specs.Named.{named_transducer_rule}
+use Rattle.tib_key_edges.specs.Named.{named_transducer_rule}
 use Rattle.tib_canon.specs.TransducerConstructions.{TransducerConstruction, moves_over, IsCanonicalTransducerOf}
 use Rattle.tib_canon.specs.TransducerKeys.{IsCanonicalTransducer, AreMovesOver}
 use Rattle.tib_canon.proofs.TransducerByText.{text_once}
@@ -149,7 +149,7 @@ module _
       (subst (λ (cmp : K → K → Ordering). IsCanonicalTransducer scale labels cmp a.order a.rules 0 h) alike.cmp a.canonical) over_same.canonical
 
 -- each key of a reached order is a seed, or an edge that is listed ends at it
-module _ {K O E : Type 0} (p : Operation K O E) (laws : Laws p) where
+module _ {K O E : Type 0} (p : Exploration K O E) (laws : Laws p) where
   edge_listed : (order : List K) (n : ℕ) (es : List E) → AreEdges p order n es → (i : ℕ) → i < n → (o : O) (e : E) → p.edge order i o e → Has es e
   edge_listed order zero es l i low o e edge = absurd (omega arith)
   edge_listed order (suc n) es (front, last, is, before, l) i low o e edge =

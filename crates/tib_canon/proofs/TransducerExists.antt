@@ -18,7 +18,7 @@ use Rattle.tib_transducer.specs.TransducerOf.{TransducerOf}
 use Rattle.tib_transducer.specs.declared.TransducerRule.{TransducerRule}
 use Rattle.tib_transducer_file.specs.ByName.{line_text}
 use Rattle.tib_transducer_file.proofs.Fitting.{IsGood}
-use Rattle.tib_keyed.specs.Named.{named_transducer_rule}
+use Rattle.tib_key_edges.specs.Named.{named_transducer_rule}
 use Rattle.tib_grammar.specs.Renaming.{number_in}
 use Rattle.tib_canon.specs.Canonical.{names_of}
 use Rattle.tib_canon.specs.Keys.{AreByKeys}

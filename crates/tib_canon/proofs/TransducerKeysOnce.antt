@@ -20,7 +20,7 @@ use Rattle.tib_transducer.specs.declared.TransducerRule.{TransducerRule}
 use Rattle.tib_canon.proofs.KeysOnce.{by_keys_once}
 use Rattle.tib_canon.proofs.TrimmedOnce.{label_is, hole_is}
 use Rattle.tib_transducer.specs.NamedPairs.{named_pair}
-use Rattle.tib_keyed.specs.Named.{named_transducer_rule}
+use Rattle.tib_key_edges.specs.Named.{named_transducer_rule}
 use Rattle.tib_canon.specs.TransducerKeys.{IsTransducerOverKeys, IsCanonicalTransducer}
 use Rattle.tib_canon.proofs.TransducerNamed.{ends_back}
 use Rattle.tib_canon.proofs.TransducerOne.{AreAlike, one_order_of}

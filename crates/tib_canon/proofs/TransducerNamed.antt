@@ -13,7 +13,7 @@ use Rattle.tib_transducer.specs.Rules.{variables_of, states_in, variables_in}
 use Rattle.tib_transducer.specs.declared.Pair.{Pair}
 use Rattle.tib_transducer.specs.declared.TransducerRule.{TransducerRule}
 use Rattle.tib_transducer.specs.NamedPairs.{named_pair}
-use Rattle.tib_keyed.specs.Named.{named_transducer_rule}
+use Rattle.tib_key_edges.specs.Named.{named_transducer_rule}
 
 module _ {P Q : Type 0} (f : P → Q) where
   pairs_states : (xs : List (Pair P)) → map (λ x. x.state) (map (named_pair f) xs) ≡ map f (map (λ x. x.state) xs)

@@ -24,8 +24,8 @@ use Rattle.tib_canon.specs.Keys.{AreByKeys}
 use Rattle.tib_canon.proofs.StateNames.{length-names_of}
 use Rattle.tib_canon.proofs.OverKeys.{number_back}
 use Rattle.tib_transducer.specs.NamedPairs.{named_pair}
-use Rattle.tib_keyed.specs.Named.{named_transducer_rule}
-use Rattle.tib_keyed.proofs.Numbered.{numbered_series}
+use Rattle.tib_key_edges.specs.Named.{named_transducer_rule}
+use Rattle.tib_key_edges.proofs.Numbered.{numbered_series}
 use Rattle.tib_canon.specs.TransducerKeys.{IsTransducerOverKeys, IsCanonicalTransducer, HasSeriesFrom, AreMovesOver}
 use Rattle.tib_canon.specs.Ordered.{over_numbers, IsTransducerInOrder}
 use Rattle.tib_canon.proofs.TransducerNamed.{states_named, shaped_back, ends_back, move_back, preorder_named, below_mapped}

@@ -16,7 +16,7 @@ use Rattle.tib_transducer_file.specs.ByName.{HasText, ReadsBack, states_of}
 use Rattle.tib_transducer_file.specs.Printed.{transducer_text}
 use Rattle.tib_transducer_file.proofs.FileBack.{prints_back}
 use Rattle.tib_canon.proofs.StateNames.{length-names_of, are_state_names}
-use Rattle.tib_keyed.specs.Named.{named_transducer_rule}
+use Rattle.tib_key_edges.specs.Named.{named_transducer_rule}
 use Rattle.tib_canon.specs.TransducerKeys.{IsCanonicalTransducer, AreMovesOver}
 use Rattle.tib_canon.proofs.TransducerKeysOnce.{member_is}
 use Rattle.tib_canon.proofs.Merged.{kept_shaped}

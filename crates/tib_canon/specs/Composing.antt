@@ -6,8 +6,8 @@ use Rattle.tib_cost.specs.Least.{IsLeast}
 use Rattle.tib_transducer.specs.Series.{IsTransducerSeries}
 use Rattle.tib_transducer.specs.TransducerOf.{TransducerOf}
 use Rattle.tib_transducer.specs.declared.TransducerRule.{TransducerRule}
-use Rattle.tib_keyed.specs.Composing.{HasTriple}
-use Rattle.tib_keyed.specs.Composition.{composition}
+use Rattle.tib_key_edges.specs.Composing.{HasTriple}
+use Rattle.tib_key_edges.specs.Composition.{composition}
 use Rattle.tib_canon.specs.TransducerConstructions.{TransducerConstruction, IsCanonicalTransducerOf, HasTransducerText}
 
 -- the pairs of the states of two transducers, from the pair of the starts

@@ -8,7 +8,7 @@ use Rattle.tib_grammar.specs.declared.Rule.{Rule}
 use Rattle.tib_grammar_file.specs.GrammarText.{GrammarText}
 use Rattle.tib_grammar_file.specs.Printable.{ArePrintable}
 use Rattle.tib_grammar_file.specs.Printed.{grammar_text}
-use Rattle.tib_expand.specs.Reached.{Operation, IsReachedSet, parts_of}
+use Rattle.tib_expand.specs.Reached.{Exploration, IsReachedSet, parts_of}
 use Rattle.tib_canon.specs.Keys.{IsCanonicalOverKeys}
 use Rattle.tib_canon.specs.declared.begin.Begin.{Begin}
 use Rattle.tib_canon.specs.declared.begin.Begin.TheVariants.{At, Fresh}
@@ -16,7 +16,7 @@ use Rattle.tib_canon.specs.declared.begin.Begin.TheVariants.{At, Fresh}
 -- A construction: what it hunts, where edges are rules over keys; a key for each place past the end
 -- of an order; and what the start over an order is.
 pub record Construction (K O : Type 0) : Type 1 where
-  pub problem : Operation K O (Rule K)
+  pub problem : Exploration K O (Rule K)
   pub spare : K
   pub begins : List K → Begin → Type 0
 
@@ -33,7 +33,7 @@ abbrev pub edges_over : {K : Type 0} → K → List K → List (Rule ℕ) → Li
 edges_over spare order rules = map (named_rule (λ n. get_or order n spare)) rules
 
 -- there is a reached set that has at most as many parts as the limit
-pub record HasReachedWithin {K O E : Type 0} (p : Operation K O E) (limit : ℕ) : Type 0 where
+pub record HasReachedWithin {K O E : Type 0} (p : Exploration K O E) (limit : ℕ) : Type 0 where
   pub order : List K
   pub edges : List E
   pub reached : IsReachedSet p order edges

@@ -2,18 +2,18 @@
 use Rattle.tib_cost.specs.declared.Scale.{Scale}
 use Rattle.std.specs.Prelude.{◌≡◌, ℕ, ◌≤◌, List, length, map}
 use Rattle.std.proofs.Common.{get_or}
-use Rattle.tib_expand.specs.Reached.{Operation, IsReachedSet, parts_of}
+use Rattle.tib_expand.specs.Reached.{Exploration, IsReachedSet, parts_of}
 use Rattle.tib_transducer.specs.TransducerOf.{TransducerOf}
 use Rattle.tib_transducer.specs.declared.TransducerRule.{TransducerRule}
 use Rattle.tib_transducer_file.specs.ByName.{ReadsBack}
 use Rattle.tib_transducer_file.specs.Printed.{transducer_text}
-use Rattle.tib_keyed.specs.Named.{named_transducer_rule}
+use Rattle.tib_key_edges.specs.Named.{named_transducer_rule}
 use Rattle.tib_canon.specs.TransducerKeys.{IsCanonicalTransducer, AreMovesOver}
 
 -- A construction of a transducer: what it hunts, where edges are rules over keys, and a key for
 -- each place past the end of an order. The start is the first key of the order.
 pub record TransducerConstruction (K O : Type 0) : Type 1 where
-  pub problem : Operation K O (TransducerRule K)
+  pub problem : Exploration K O (TransducerRule K)
   pub spare : K
 
 -- the edges for which rules over the positions of an order stand

@@ -11,7 +11,7 @@ use Rattle.tib_transducer.specs.declared.TransducerRule.{TransducerRule}
 use Rattle.tib_transducer_file.specs.ByName.{IsPrintable}
 use Rattle.tib_canon.specs.Canonical.{names_of}
 use Rattle.tib_canon.specs.Keys.{AreByKeys}
-use Rattle.tib_keyed.specs.Numbering.{AreRenumbered}
+use Rattle.tib_key_edges.specs.Numbering.{AreRenumbered}
 use Rattle.tib_canon.specs.Ordered.{IsTransducerInOrder}
 
 -- The transducer whose states are all keys of the order, the start first and the others ascending

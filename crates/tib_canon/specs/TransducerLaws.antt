@@ -13,8 +13,8 @@ use Rattle.tib_transducer_file.specs.ByName.{states_of, IsSameByName, ReadsBack}
 use Rattle.tib_transducer_file.specs.Printed.{transducer_text}
 use Rattle.tib_transducer_file.specs.TransducerText.{TransducerText}
 use Rattle.tib_canon.specs.Constructions.{HasReachedWithin}
-use Rattle.tib_keyed.specs.Plain.{ArePlain}
-use Rattle.tib_keyed.specs.Composition.{composition}
+use Rattle.tib_key_edges.specs.Plain.{ArePlain}
+use Rattle.tib_key_edges.specs.Composition.{composition}
 use Rattle.tib_canon.specs.Composing.{composing, HasComposeSeries, HasComposeText}
 use Rattle.tib_canon.specs.TransducerConstructions.{IsCanonicalTransducerOf}
 use Rattle.tib_canon.specs.TransducerKeys.{IsCanonicalTransducer, HasSeriesFrom, AreMovesOver}

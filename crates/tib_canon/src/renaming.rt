@@ -9,7 +9,7 @@ ghost use Rattle.tib_tree.specs.Trees.{preorder_of};
 ghost use Rattle.tib_transducer.specs.Range.{IsWithin, AreWithin};
 ghost use Rattle.tib_transducer.specs.Rules.{states_in};
 ghost use Rattle.tib_transducer.specs.NamedPairs.{named_pair, named_item};
-ghost use Rattle.tib_keyed.specs.Named.{named_transducer_rule};
+ghost use Rattle.tib_key_edges.specs.Named.{named_transducer_rule};
 ghost use Rattle.tib_canon.specs.RuleItems.{states_among};
 
 use std::alloc::{AllocError, Global};

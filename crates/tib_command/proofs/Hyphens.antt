@@ -8,11 +8,11 @@ use Rattle.tib_command.specs.declared.job.Mode.{Mode}
 use Rattle.tib_command.specs.declared.job.Mode.TheVariants.{MinPlus}
 use Rattle.tib_command.specs.Words.{Text, Part, mode, depth, workers, limit, beam, place, said, begins, reads, then_reads, Item, and_item, values_of, same_part}
 use Rattle.tib_command.specs.Command.{takes, then_takes}
-use Rattle.tib_command.specs.Jobs.{most_parts, most_trees, most_workers, Asked, Task, asked_by, beam_in, count_in, mode_in, once, task_in}
+use Rattle.tib_command.specs.Jobs.{most_parts, most_trees, most_workers, Asked, AskedFor, asked_by, beam_in, count_in, mode_in, once, task_in}
 use Rattle.tib_command.proofs.Views.{View, plain_view, ends_view, option_view, refused_view, view, is_option}
 use Rattle.tib_command.proofs.Walks.{AllUtf8, not_waited}
 
-abbrev pub asked_from : Option Mode → Option ℕ → Option ℕ → Option ℕ → Option ℕ → Option Task → Option Asked
+abbrev pub asked_from : Option Mode → Option ℕ → Option ℕ → Option ℕ → Option ℕ → Option AskedFor → Option Asked
 asked_from md k w l b t =
     option_and_then (λ md. option_and_then (λ k. option_and_then (λ w. option_and_then (λ l. option_and_then (λ b.
     option_map (λ t. record { mode = md; k = k; workers = w; limit = l; beam = b; task = t }) t) b) l) w) k) md
@@ -100,22 +100,22 @@ no_once default read (v ∷ []) none e = ap read ((bytes_eq-Decides v (45 ∷ []
     first false h = h
 no_once default read (v ∷ w ∷ rest) none e = refl
 
-no_k : (md : Option Mode) (w l b : Option ℕ) (t : Option Task) → asked_from md None w l b t ≡ None
+no_k : (md : Option Mode) (w l b : Option ℕ) (t : Option AskedFor) → asked_from md None w l b t ≡ None
 no_k None w l b t = refl
 no_k (Some md) w l b t = refl
 
-no_w : (md : Option Mode) (k l b : Option ℕ) (t : Option Task) → asked_from md k None l b t ≡ None
+no_w : (md : Option Mode) (k l b : Option ℕ) (t : Option AskedFor) → asked_from md k None l b t ≡ None
 no_w None k l b t = refl
 no_w (Some md) None l b t = refl
 no_w (Some md) (Some k) l b t = refl
 
-no_l : (md : Option Mode) (k w b : Option ℕ) (t : Option Task) → asked_from md k w None b t ≡ None
+no_l : (md : Option Mode) (k w b : Option ℕ) (t : Option AskedFor) → asked_from md k w None b t ≡ None
 no_l None k w b t = refl
 no_l (Some md) None w b t = refl
 no_l (Some md) (Some k) None b t = refl
 no_l (Some md) (Some k) (Some w) b t = refl
 
-no_b : (md : Option Mode) (k w l : Option ℕ) (t : Option Task) → asked_from md k w l None t ≡ None
+no_b : (md : Option Mode) (k w l : Option ℕ) (t : Option AskedFor) → asked_from md k w l None t ≡ None
 no_b None k w l t = refl
 no_b (Some md) None w l t = refl
 no_b (Some md) (Some k) None l t = refl
@@ -138,7 +138,7 @@ module _ (items : List Item) where
   abbrev b : Option ℕ
   b = once 0 beam_in (values_of beam items)
 
-  abbrev t : Option Task
+  abbrev t : Option AskedFor
   t = task_in (values_of place items)
 
   no_job : (p : Part) → is_option p ≡ true → list_any is_hyphen (values_of p items) ≡ true → asked_by items ≡ None

@@ -12,7 +12,7 @@ use Rattle.tib_command.specs.declared.job.Mode.TheVariants as m
 use Rattle.tib_command.specs.declared.job.Operation.{Operation}
 use Rattle.tib_command.specs.declared.job.Operation.TheVariants as o
 use Rattle.tib_command.specs.declared.job.Job.{Job}
-use Rattle.tib_command.specs.declared.values.Task.{Task as Read}
+use Rattle.tib_command.specs.declared.values.AskedFor.{AskedFor as Read}
 use Rattle.std.specs.Borrow.{Bor}
 use Rattle.tib_command.specs.Words.{Text, Item, reads, values_of, mode, depth, workers, limit, beam, place}
 
@@ -88,7 +88,7 @@ takes_number operation = false
 
 -- what the positional words say: the operation, its files, and the number of `demo`, which is 0 for
 -- the others
-pub record Task : Type 0 where
+pub record AskedFor : Type 0 where
   pub operation : Operation
   pub files : List Text
   pub demo : ℕ
@@ -113,7 +113,7 @@ abbrev pub beam_in : Text → Option ℕ
 beam_in text = number_in 16 0 most_beam text
 
 -- as many file names as the operation takes, none of them empty
-abbrev pub files_in : Operation → List Text → Option Task
+abbrev pub files_in : Operation → List Text → Option AskedFor
 files_in op files =
     if are_files op files then Some (record { operation = op; files = files; demo = 0 }) else None
 
@@ -121,20 +121,20 @@ files_in op files =
 abbrev pub most_demo : ℕ
 most_demo = 16
 
-abbrev pub demo_of : ℕ → Task
+abbrev pub demo_of : ℕ → AskedFor
 demo_of n = record { operation = o.Demo; files = []; demo = n }
 
 -- one word that is a number from 1 on, in one to twelve digits
-abbrev pub demo_in : List Text → Option Task
+abbrev pub demo_in : List Text → Option AskedFor
 demo_in [] = None
 demo_in (word ∷ []) = option_map demo_of (count_in most_demo word)
 demo_in (word ∷ other ∷ rest) = None
 
 -- what follows the operation
-abbrev pub words_in : Operation → List Text → Option Task
+abbrev pub words_in : Operation → List Text → Option AskedFor
 words_in op words = if takes_number op then demo_in words else files_in op words
 
-abbrev pub task_in : List Text → Option Task
+abbrev pub task_in : List Text → Option AskedFor
 task_in [] = None
 task_in (name ∷ rest) = option_and_then (λ op. words_in op rest) (operation_in name)
 
@@ -144,7 +144,7 @@ pub record Asked : Type 0 where
   pub workers : ℕ
   pub limit : ℕ
   pub beam : ℕ
-  pub task : Task
+  pub task : AskedFor
 
 abbrev pub asked_by : List Item → Option Asked
 asked_by items =
@@ -179,5 +179,5 @@ meaning job = record {
 abbrev pub texts_of : Option (Bor (List (Bor Text))) → List Text
 texts_of values = unwrap_or (option_map (λ vs. map (λ v. v.now) vs.now) values) []
 
-abbrev pub task_meaning : Read → Task
+abbrev pub task_meaning : Read → AskedFor
 task_meaning t = record { operation = t.operation; files = map (λ s. string_bytes s) t.files.items; demo = t.demo }

@@ -108,7 +108,7 @@ pub(crate) fn mode_once(values: Option<&[&str]>) -> Option<Mode>
 
 /// What the positional words say.
 #[derive(Drop)]
-pub(crate) struct Task {
+pub(crate) struct AskedFor {
     pub(crate) operation: Operation,
     pub(crate) files: Vec<String>,
     pub(crate) demo: u32,
@@ -178,7 +178,7 @@ fn are_files(operation: Operation, words: &[&str]) -> bool
 }
 
 /// The file names of an operation, where the words are these.
-fn files_in(alloc: Global, operation: Operation, words: &[&str]) -> Result<Option<Task>, AllocError>
+fn files_in(alloc: Global, operation: Operation, words: &[&str]) -> Result<Option<AskedFor>, AllocError>
     ensures task { IfOk result (λ r. option_map task_meaning r
         ≡ files_in operation (map (λ w. w.now) words.now)) }
     ensures files { IfOk result (λ r. IfSome r (λ t. length t.files.items ≡ word_count operation)) }
@@ -188,7 +188,7 @@ fn files_in(alloc: Global, operation: Operation, words: &[&str]) -> Result<Optio
     if !are_files(operation, words) {
         return Ok(None);
     }
-    Ok(Some(Task {
+    Ok(Some(AskedFor {
         operation,
         files: copied(alloc, words)?,
         demo: 0,
@@ -196,7 +196,7 @@ fn files_in(alloc: Global, operation: Operation, words: &[&str]) -> Result<Optio
 }
 
 /// The number of `demo`, where the words are this one number.
-fn demo_in(alloc: Global, words: &[&str]) -> Option<Task>
+fn demo_in(alloc: Global, words: &[&str]) -> Option<AskedFor>
     ensures task { option_map task_meaning result ≡ demo_in (map (λ w. w.now) words.now) }
     ensures files { IfSome result (λ t. length t.files.items ≡ word_count t.operation) }
     ensures least { IfSome result (λ t. 1 ≤ t.demo) }
@@ -208,7 +208,7 @@ fn demo_in(alloc: Global, words: &[&str]) -> Option<Task>
     let Some(demo) = number_in(word, 12, 1, MOST_DEMO) else {
         return None;
     };
-    Some(Task {
+    Some(AskedFor {
         operation: Operation::Demo,
         files: Vec::new(alloc),
         demo: demo as u32,
@@ -216,7 +216,7 @@ fn demo_in(alloc: Global, words: &[&str]) -> Option<Task>
 }
 
 /// What the positional words say, where they are of the language.
-pub(crate) fn read_task(alloc: Global, places: Option<&[&str]>) -> Result<Option<Task>, AllocError>
+pub(crate) fn read_task(alloc: Global, places: Option<&[&str]>) -> Result<Option<AskedFor>, AllocError>
     ensures task { IfOk result (λ r. option_map task_meaning r ≡ task_in (texts_of places.entry)) }
     ensures files { IfOk result (λ r. IfSome r (λ t.
         length t.files.items ≡ word_count t.operation)) }

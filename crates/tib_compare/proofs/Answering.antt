@@ -14,7 +14,7 @@ use Rattle.tib_cost.specs.Semiring.{boolean_laws}
 use Rattle.tib_determinize.specs.Vectors.{VectorOf, vector_at}
 use Rattle.tib_determinize.specs.VectorGrammar.{IsVectorGrammar, IsDeterminized}
 use Rattle.tib_determinize.proofs.Found.{vector_grammar}
-use Rattle.tib_k_best_lists.specs.Best.{Costed, Cheaper, IsTreeAt, IsKBest}
+use Rattle.tib_ranked_trees.specs.Best.{Costed, Cheaper, IsTreeAt, IsKBest}
 use Rattle.tib_compare.specs.Compared.{AreFree, HasCost, Agree, IsOnlyIn, IsInOne, IsLeastOnly, IsCompared, IsTooLarge, IsSmall}
 use Rattle.tib_compare.specs.Beside.{beside}
 use Rattle.tib_compare.specs.Wanted.{differs, node_cost, wanted}

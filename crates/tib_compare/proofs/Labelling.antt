@@ -15,7 +15,7 @@ use Rattle.tib_grammar.proofs.Sides.{holes_of-over}
 use Rattle.tib_grammar.proofs.NormalRuns.{label_named}
 use Rattle.tib_grammar_file.specs.Printed.{LabelsBelow, AreLabelled}
 use Rattle.tib_weigh.proofs.Filters.{filtered_has}
-use Rattle.tib_k_best_lists.specs.Levels.{root_of, states_of}
+use Rattle.tib_ranked_trees.specs.Levels.{root_of, states_of}
 use Rattle.tib_determinize.specs.Vectors.{VectorOf}
 use Rattle.tib_determinize.specs.VectorGrammar.{IsVectorGrammar}
 use Rattle.tib_compare.specs.Beside.{moved, raised, beside}

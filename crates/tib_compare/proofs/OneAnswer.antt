@@ -8,7 +8,7 @@ use Rattle.tib_tree.specs.Grows.{AreDistinct}
 use Rattle.tib_tree.specs.Order.{tree_cmp_by}
 use Rattle.tib_grammar.specs.declared.Rule.{Rule}
 use Rattle.tib_grammar_file.specs.Printed.{AreLabelled}
-use Rattle.tib_k_best_lists.proofs.Ranks.{cheaper_total, tree_below}
+use Rattle.tib_ranked_trees.proofs.Ranks.{cheaper_total, tree_below}
 use Rattle.tib_compare.specs.Compared.{HasCost, IsLeastOnly, IsCompared, HasOneAnswer, ExcludesTooLarge}
 use Rattle.tib_compare.specs.declared.compared.Compared.{Compared}
 use Rattle.tib_compare.specs.declared.compared.Compared.TheVariants.{Same, First, Second}

@@ -11,7 +11,7 @@ use Rattle.tib_tree.specs.Growth.{text_at}
 use Rattle.tib_tree.proofs.Counts.{sizes-relabel}
 use Rattle.tib_tree.specs.Order.{trees_cmp, tree_cmp_by}
 use Rattle.tib_tree.proofs.Orderings.{three_ways}
-use Rattle.tib_k_best_lists.proofs.Ranks.{cheaper_apart}
+use Rattle.tib_ranked_trees.proofs.Ranks.{cheaper_apart}
 
 first_decides : (a b : ℕ) (x : Ordering) → ordering_then (nat_cmp a b) x ≡ Less → a ≤ b
 first_decides a b x e = elim (three_ways a b) [

@@ -9,7 +9,7 @@ use Rattle.tib_grammar.specs.Forms.{IsLabel, IsNormalSide, AreNormal}
 use Rattle.tib_grammar.specs.Range.{AllBelow}
 use Rattle.tib_grammar.specs.declared.Rule.{Rule}
 use Rattle.tib_grammar.proofs.Sides.{holes-leaves, AreHoles-leaves}
-use Rattle.tib_k_best_lists.specs.Levels.{root_of, states_of}
+use Rattle.tib_ranked_trees.specs.Levels.{root_of, states_of}
 use Rattle.tib_compare.specs.Beside.{moved}
 use Rattle.tib_compare.proofs.Mirrored.{IsMirrored}
 

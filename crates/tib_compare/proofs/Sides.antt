@@ -14,7 +14,7 @@ use Rattle.tib_grammar.proofs.Sides.{holes_of-label}
 use Rattle.tib_grammar.proofs.NormalRuns.{label_named}
 use Rattle.tib_cost.specs.Semiring.{boolean_laws}
 use Rattle.tib_cost.proofs.Least.{IsLeast-same}
-use Rattle.tib_k_best_lists.specs.Levels.{states_of}
+use Rattle.tib_ranked_trees.specs.Levels.{states_of}
 use Rattle.tib_compare.specs.Compared.{AreFree}
 use Rattle.tib_compare.specs.Beside.{moved, raised, beside, KeepBoth}
 use Rattle.tib_compare.proofs.Mirrored.{IsMirrored, Mirrors, carried}

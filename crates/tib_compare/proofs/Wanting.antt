@@ -14,8 +14,8 @@ use Rattle.tib_grammar.proofs.NormalRuns.{IsLeast-no_states}
 use Rattle.tib_grammar.proofs.Opening.{open_cost, close_cost}
 use Rattle.tib_cost.specs.Semiring.{boolean_laws, sum_laws, most}
 use Rattle.tib_weigh.proofs.Filters.{filtered_has, has_filtered}
-use Rattle.tib_k_best_lists.specs.Best.{HasLarge}
-use Rattle.tib_k_best_lists.specs.Levels.{states_of}
+use Rattle.tib_ranked_trees.specs.Best.{HasLarge}
+use Rattle.tib_ranked_trees.specs.Levels.{states_of}
 use Rattle.tib_compare.specs.Beside.{moved}
 use Rattle.tib_compare.specs.Wanted.{ArePriced, is_marked, node_cost, wanted}
 use Rattle.tib_compare.proofs.Mirrored.{IsMirrored, Mirrors, carried}

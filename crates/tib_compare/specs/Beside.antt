@@ -6,7 +6,7 @@ use Rattle.tib_grammar.specs.Series.{IsSeriesAt}
 use Rattle.tib_grammar.specs.Forms.{AreNormal}
 use Rattle.tib_grammar.specs.Range.{AreInRange}
 use Rattle.tib_grammar.specs.declared.Rule.{Rule}
-use Rattle.tib_k_best_lists.specs.Levels.{root_of, states_of}
+use Rattle.tib_ranked_trees.specs.Levels.{root_of, states_of}
 use Rattle.tib_compare.specs.Compared.{AreFree}
 
 -- a rule's label over its states, each raised by a number, from a left state and at a cost

@@ -2,7 +2,7 @@
 use Rattle.std.specs.Prelude.{◌≡◌, ℕ, ◌≤◌, max, List, length}
 use Rattle.tib_grammar.specs.GrammarOf.{GrammarOf}
 use Rattle.tib_grammar.specs.declared.Rule.{Rule}
-use Rattle.tib_expand.specs.Reached.{Operation, IsReachedSet, IsBeyond, parts_of, HuntError, TooMany as HuntedTooMany, OutOfMemory as HuntedOutOfMemory}
+use Rattle.tib_expand.specs.Reached.{Exploration, IsReachedSet, IsBeyond, parts_of, HuntError, TooMany as HuntedTooMany, OutOfMemory as HuntedOutOfMemory}
 use Rattle.tib_determinize.specs.Vectors.{VectorOf}
 use Rattle.tib_determinize.specs.Determinization.{determinization}
 use Rattle.tib_compare.specs.Beside.{beside}
@@ -11,7 +11,7 @@ use Rattle.tib_compare.specs.declared.error.CompareError.{CompareError}
 use Rattle.tib_compare.specs.declared.error.CompareError.TheVariants.{TooMany, TreeTooLarge, OutOfMemory}
 
 -- what is hunted: the vectors of both grammars side by side
-abbrev pub hunted : GrammarOf → GrammarOf → Operation VectorOf (ℕ × List ℕ) (Rule VectorOf)
+abbrev pub hunted : GrammarOf → GrammarOf → Exploration VectorOf (ℕ × List ℕ) (Rule VectorOf)
 hunted left right = determinization max (beside (length left.names) left.rules right.rules)
 
 -- a reached set has no more parts than the limit

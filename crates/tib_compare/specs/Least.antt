@@ -3,7 +3,7 @@ use Rattle.std.specs.Prelude.{◌≡◌, ℕ, ◌+◌, ◌≤◌, List, [], ◌�
 use Rattle.std.proofs.Common.{get_or}
 use Rattle.tib_tree.specs.Trees.{Tree, size, most_nodes}
 use Rattle.tib_grammar.specs.declared.Rule.{Rule}
-use Rattle.tib_k_best_lists.specs.Best.{Costed, IsKBest}
+use Rattle.tib_ranked_trees.specs.Best.{Costed, IsKBest}
 
 -- the list of the best tree, by the sum of costs
 abbrev pub IsLeastWanted : List (List ℕ) → List (Rule ℕ) → List Costed → Type 0

@@ -13,7 +13,7 @@ use tib_cost::{Cost, MinPlus};
 use tib_determinize::Vector;
 use tib_grammar::Rule;
 use tib_k_best::{KBestError, List, best_of_rules};
-use tib_k_best_lists::label_ranks;
+use tib_ranked_trees::label_ranks;
 use tib_tree::{Labels, Tree};
 
 // What a node costs: a ten-thousandth of the greatest cost.

@@ -12,12 +12,12 @@ use Rattle.tib_transducer.specs.Rules.{transducer_rule}
 use Rattle.tib_transducer.specs.declared.Pair.{Pair}
 use Rattle.tib_transducer.specs.declared.TransducerRule.{TransducerRule}
 use Rattle.tib_grammar.specs.Sides.{Symbol}
-use Rattle.tib_keyed.specs.Choices.{choices_of, reads_label}
-use Rattle.tib_keyed.specs.Completions.{completions}
-use Rattle.tib_keyed.specs.Pieces.{Piece as PieceOf, read, Result, results, results_by, result_of, pieces_of, sides_of, states_of}
-use Rattle.tib_keyed.specs.Translations.{choice_cost, translated}
-use Rattle.tib_keyed.specs.Flat.{substituted}
-use Rattle.tib_keyed.proofs.Choosing.{map_has}
+use Rattle.tib_key_edges.specs.Choices.{choices_of, reads_label}
+use Rattle.tib_key_edges.specs.Completions.{completions}
+use Rattle.tib_key_edges.specs.Pieces.{Piece as PieceOf, read, Result, results, results_by, result_of, pieces_of, sides_of, states_of}
+use Rattle.tib_key_edges.specs.Translations.{choice_cost, translated}
+use Rattle.tib_key_edges.specs.Flat.{substituted}
+use Rattle.tib_key_edges.proofs.Choosing.{map_has}
 use Rattle.tib_compose.specs.Pending.{IsAtLeast, BoundsPiece, BoundsAll, Holds}
 use Rattle.tib_compose.specs.Readers.{readers}
 use Rattle.tib_compose.specs.Walk.{AreReady}

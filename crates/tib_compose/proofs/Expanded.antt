@@ -6,18 +6,18 @@ use Rattle.tib_lex.proofs.Members.{has_left, has_right, has_either}
 use Rattle.tib_lex.proofs.Alongs.{along_of, along_back, total_fewer}
 use Rattle.tib_tree.specs.Trees.{Trees}
 use Rattle.tib_expand.specs.EdgeLists.{Lists, AreListed, IsEnd, Exceeds}
-use Rattle.tib_keyed.specs.Ends.{key_at}
+use Rattle.tib_key_edges.specs.Ends.{key_at}
 use Rattle.tib_transducer.specs.Range.{AreShaped}
 use Rattle.tib_transducer.specs.declared.TransducerRule.{TransducerRule}
-use Rattle.tib_keyed.specs.Choices.{edges_of}
-use Rattle.tib_keyed.specs.Composing.{IsComposeEdge}
-use Rattle.tib_keyed.specs.Composition.{ends_of, edge_parts}
-use Rattle.tib_keyed.specs.Named.{named_transducer_rule}
-use Rattle.tib_keyed.proofs.EdgeList.{edges_are_listed}
-use Rattle.tib_keyed.proofs.Exact.{same_edge}
+use Rattle.tib_key_edges.specs.Choices.{edges_of}
+use Rattle.tib_key_edges.specs.Composing.{IsComposeEdge}
+use Rattle.tib_key_edges.specs.Composition.{ends_of, edge_parts}
+use Rattle.tib_key_edges.specs.Named.{named_transducer_rule}
+use Rattle.tib_key_edges.proofs.EdgeList.{edges_are_listed}
+use Rattle.tib_key_edges.proofs.Exact.{same_edge}
 use Rattle.tib_compose.specs.EdgeLaws.{places_of, rule_of}
-use Rattle.tib_compose.specs.Listing.{IsListing, IsWithinBudget, all_ends}
-use Rattle.tib_compose.specs.declared.listing.Listing.{Listing}
+use Rattle.tib_compose.specs.CompositionListing.{IsListing, IsWithinBudget, all_ends}
+use Rattle.tib_compose.specs.declared.listing.CompositionListing.{CompositionListing}
 use Rattle.tib_compose.specs.declared.placed_rule.PlacedRule.{PlacedRule}
 
 has_end : (es : List (TransducerRule (ℕ × ℕ))) (k : ℕ × ℕ) → Has (all_ends es) k → (e : TransducerRule (ℕ × ℕ)) × Has es e × Has (ends_of e) k
@@ -46,7 +46,7 @@ module _ (product : ℕ → ℕ → ℕ) (one two : List (TransducerRule ℕ)) (
 
   -- the list has the edges of the position
   pub whole_listed :
-      (l : Listing) (ends : List (ℕ × ℕ)) (rules : List PlacedRule) (parts : ℕ) → ends ≡ l.ends.items → rules ≡ l.rules.items → parts ≡ l.parts → IsWithinBudget l → IsListing order (key_at order n) all l →
+      (l : CompositionListing) (ends : List (ℕ × ℕ)) (rules : List PlacedRule) (parts : ℕ) → ends ≡ l.ends.items → rules ≡ l.rules.items → parts ≡ l.parts → IsWithinBudget l → IsListing order (key_at order n) all l →
       AreListed Gives edge_parts (λ r. places_of (rule_of r)) (λ f r. named_transducer_rule f (rule_of r)) order ends rules parts
   whole_listed l ends rules parts e d p within h =
       subst (λ xs. AreListed Gives edge_parts (λ r. places_of (rule_of r)) (λ f r. named_transducer_rule f (rule_of r)) order xs rules parts) (sym e)
@@ -60,7 +60,7 @@ module _ (product : ℕ → ℕ → ℕ) (one two : List (TransducerRule ℕ)) (
       ))
 
   -- its ends are those of the edges
-  pub whole_ends : (l : Listing) (ends : List (ℕ × ℕ)) → ends ≡ l.ends.items → IsListing order (key_at order n) all l → (k : ℕ × ℕ) → Has ends k ↔ IsEnd Gives ends_of k
+  pub whole_ends : (l : CompositionListing) (ends : List (ℕ × ℕ)) → ends ≡ l.ends.items → IsListing order (key_at order n) all l → (k : ℕ × ℕ) → Has ends k ↔ IsEnd Gives ends_of k
   whole_ends l ends e h k = (to, from)
     where
       are : ends ≡ all_ends all

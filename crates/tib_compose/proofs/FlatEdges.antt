@@ -16,19 +16,19 @@ use Rattle.tib_transducer.specs.Rules.{no_rule, transducer_rule}
 use Rattle.tib_transducer.specs.declared.Pair.{Pair}
 use Rattle.tib_transducer.specs.declared.Variable.{Variable}
 use Rattle.tib_transducer.specs.declared.TransducerRule.{TransducerRule}
-use Rattle.tib_keyed.specs.Choices.{reads_label}
-use Rattle.tib_keyed.specs.Composition.{edge_parts}
-use Rattle.tib_keyed.proofs.Pieces.{goes_by_pieces}
-use Rattle.tib_keyed.specs.Pieces.{Piece as PieceOf, Result, GoesByPieces, pieces_of, results, results_by, read}
+use Rattle.tib_key_edges.specs.Choices.{reads_label}
+use Rattle.tib_key_edges.specs.Composition.{edge_parts}
+use Rattle.tib_key_edges.proofs.Pieces.{goes_by_pieces}
+use Rattle.tib_key_edges.specs.Pieces.{Piece as PieceOf, Result, GoesByPieces, pieces_of, results, results_by, read}
 use Rattle.tib_compose.specs.Ends.{IsSkipped}
 use Rattle.tib_compose.specs.FlatSides.{ArePairsFrom, IsFlatOver, KeptOverruns, ListsKept, PutsBelow, PutsRight, flat_results, kept, leaf}
 use Rattle.tib_compose.specs.KeyEdges.{rule_edges}
-use Rattle.tib_compose.specs.Listing.{IsAdded, IsListing, IsTooMuch}
+use Rattle.tib_compose.specs.CompositionListing.{IsAdded, IsListing, IsTooMuch}
 use Rattle.tib_compose.specs.PieceViews.{AreKnown, kids_there, piece_below, side_there}
 use Rattle.tib_compose.specs.Readers.{readers, readers_with}
 use Rattle.tib_compose.specs.Searches.{affordable, all_of, reader_results}
 use Rattle.tib_compose.specs.Walk.{AreReady, result_edges}
-use Rattle.tib_compose.specs.declared.listing.Listing.{Listing}
+use Rattle.tib_compose.specs.declared.listing.CompositionListing.{CompositionListing}
 use Rattle.tib_compose.proofs.Listed.{listing_added, listing_overruns}
 use Rattle.tib_compose.proofs.Taking.{hole_below, label_taken, no_pieces, one_piece, pair_taken, put_taken}
 use Rattle.tib_compose.proofs.Walking.{all_append, by_readers, drop_past, edges_append, has_there, is_reader, kids_count, known_from, total_front}
@@ -119,13 +119,13 @@ kept_of n done = by (nat_le n most)
 
 -- it is listed
 
-pub kept_listed : (left : SideFor ℕ Variable) (done : List (Item (Pair (ℕ × ℕ)))) (cost : ℕ) (old new : Listing) → IsAdded left done cost old new → ListsKept left done (Some cost) old new
+pub kept_listed : (left : SideFor ℕ Variable) (done : List (Item (Pair (ℕ × ℕ)))) (cost : ℕ) (old new : CompositionListing) → IsAdded left done cost old new → ListsKept left done (Some cost) old new
 kept_listed left done cost old new added order key es lists = listing_added order key es left done cost old new added lists
 
-pub none_listed : (left : SideFor ℕ Variable) (done : List (Item (Pair (ℕ × ℕ)))) (l : Listing) → ListsKept left done None l l
+pub none_listed : (left : SideFor ℕ Variable) (done : List (Item (Pair (ℕ × ℕ)))) (l : CompositionListing) → ListsKept left done None l l
 none_listed left done l order key es lists = subst (λ xs. IsListing order key xs l) (sym (append-nil es)) lists
 
-pub kept_overruns : (left : SideFor ℕ Variable) (done : List (Item (Pair (ℕ × ℕ)))) (cost : ℕ) (old : Listing) → IsTooMuch left done old → KeptOverruns left done (Some cost) old
+pub kept_overruns : (left : SideFor ℕ Variable) (done : List (Item (Pair (ℕ × ℕ)))) (cost : ℕ) (old : CompositionListing) → IsTooMuch left done old → KeptOverruns left done (Some cost) old
 kept_overruns left done cost old much order key es lists = listing_overruns order key es left done cost old much lists
 
 -- a rule that reads the label

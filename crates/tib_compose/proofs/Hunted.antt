@@ -11,17 +11,17 @@ use Rattle.tib_grammar.specs.Range.{AllBelow}
 use Rattle.tib_expand.specs.Reached.{IsReachedSet, IsBeyond, parts_of}
 use Rattle.tib_expand.specs.Reading.{AreBelow}
 use Rattle.tib_expand.specs.Keys.{key_parts}
-use Rattle.tib_keyed.specs.Ends.{key_at}
-use Rattle.tib_keyed.proofs.Limits.{each_counts}
+use Rattle.tib_key_edges.specs.Ends.{key_at}
+use Rattle.tib_key_edges.proofs.Limits.{each_counts}
 use Rattle.tib_transducer.specs.Rules.{transducer_rule, no_rule, states_in}
 use Rattle.tib_transducer.specs.Range.{AreShaped, AreWithin}
 use Rattle.tib_transducer.specs.TransducerOf.{TransducerOf}
 use Rattle.tib_transducer.specs.declared.Pair.{Pair}
 use Rattle.tib_transducer.specs.declared.TransducerRule.{TransducerRule}
-use Rattle.tib_keyed.specs.Composition.{composition, edge_parts}
-use Rattle.tib_keyed.specs.Named.{named_transducer_rule}
-use Rattle.tib_keyed.proofs.Exact.{reached_is_composite}
-use Rattle.tib_keyed.proofs.Standing.{composite_is_shaped}
+use Rattle.tib_key_edges.specs.Composition.{composition, edge_parts}
+use Rattle.tib_key_edges.specs.Named.{named_transducer_rule}
+use Rattle.tib_key_edges.proofs.Exact.{reached_is_composite}
+use Rattle.tib_key_edges.proofs.Standing.{composite_is_shaped}
 use Rattle.tib_compose.specs.EdgeLaws.{places_of, all_states}
 
 below_append : (n : ℕ) (xs ys : List ℕ) → AllBelow n xs → AllBelow n ys → AllBelow n (xs ++ ys)

@@ -12,16 +12,16 @@ use Rattle.tib_cost.specs.Least.{times}
 use Rattle.tib_lex.proofs.Numbers.{nat_le_cases}
 use Rattle.tib_transducer.specs.declared.Pair.{Pair}
 use Rattle.tib_transducer.specs.declared.TransducerRule.{TransducerRule}
-use Rattle.tib_keyed.specs.Translations.{choice_cost}
-use Rattle.tib_keyed.specs.Choices.{choices_at, choices_of}
-use Rattle.tib_keyed.specs.Completions.{completions}
-use Rattle.tib_keyed.specs.Pieces.{Piece as PieceOf, put, read, sides_of, states_of}
-use Rattle.tib_keyed.proofs.Choosing.{has_joins}
-use Rattle.tib_keyed.proofs.Searching.{cost_join}
+use Rattle.tib_key_edges.specs.Translations.{choice_cost}
+use Rattle.tib_key_edges.specs.Choices.{choices_at, choices_of}
+use Rattle.tib_key_edges.specs.Completions.{completions}
+use Rattle.tib_key_edges.specs.Pieces.{Piece as PieceOf, put, read, sides_of, states_of}
+use Rattle.tib_key_edges.proofs.Choosing.{has_joins}
+use Rattle.tib_key_edges.proofs.Searching.{cost_join}
 use Rattle.tib_compose.specs.PieceViews.{piece_of}
 use Rattle.tib_compose.specs.Pending.{IsAtLeast, task_at, BoundsPiece, BoundsAll, Stands, Holds, Extends}
 use Rattle.tib_compose.specs.declared.pending.Piece.{Piece}
-use Rattle.tib_compose.specs.declared.pending.Task.{Task}
+use Rattle.tib_compose.specs.declared.pending.PendingPiece.{PendingPiece}
 use Rattle.tib_compose.specs.declared.pending.Pending.{Pending}
 use Rattle.tib_compose.specs.declared.branch.Branch.{Branch}
 use Rattle.tib_compose.specs.Branches.{OnlyPutsOut}
@@ -73,48 +73,48 @@ get_seam (x ∷ xs) y d = get_seam xs y d
 
 module _ (product : ℕ → ℕ → ℕ) (two : List (TransducerRule ℕ)) (pairs : List (Symbol ℕ (Pair ℕ) × ℕ)) where
   -- tasks after the others change nothing
-  pub stands_longer : (tasks more : List Task) (ws : List PieceOf) (n : ℕ) → Stands product two pairs tasks n ws → Stands product two pairs (tasks ++ more) n ws
+  pub stands_longer : (tasks more : List PendingPiece) (ws : List PieceOf) (n : ℕ) → Stands product two pairs tasks n ws → Stands product two pairs (tasks ++ more) n ws
   stands_longer tasks more [] n h = h
   stands_longer tasks more (w ∷ ws) n h =
       let low : n - 1 < length tasks = let a = h.0 in let b = h.1 in omega (arith, a, b) in
       let same : task_at (tasks ++ more) (n - 1) ≡ task_at tasks (n - 1) = get_append tasks more (n - 1) _ low in (
         h.0,
         (let b = h.1 in omega (arith, b, length-append tasks more)),
-        ap (λ (t : Task). piece_of pairs t.piece) same ∙ h.2,
-        subst (λ (t : Task). t.rest < n) (sym same) h.3,
-        subst (λ (t : Task). BoundsAll product two (w ∷ ws) t.bound) (sym same) h.4,
-        subst (λ (t : Task). Stands product two pairs (tasks ++ more) t.rest ws) (sym same) (stands_longer tasks more ws (task_at tasks (n - 1)).rest h.5),
+        ap (λ (t : PendingPiece). piece_of pairs t.piece) same ∙ h.2,
+        subst (λ (t : PendingPiece). t.rest < n) (sym same) h.3,
+        subst (λ (t : PendingPiece). BoundsAll product two (w ∷ ws) t.bound) (sym same) h.4,
+        subst (λ (t : PendingPiece). Stands product two pairs (tasks ++ more) t.rest ws) (sym same) (stands_longer tasks more ws (task_at tasks (n - 1)).rest h.5),
       )
 
   -- the number of the next task is one of a task
-  pub stands_within : (tasks : List Task) (ws : List PieceOf) (n : ℕ) → Stands product two pairs tasks n ws → n ≤ length tasks
+  pub stands_within : (tasks : List PendingPiece) (ws : List PieceOf) (n : ℕ) → Stands product two pairs tasks n ws → n ≤ length tasks
   stands_within tasks [] n h = omega (arith, h)
   stands_within tasks (w ∷ ws) n h = h.1
 
   -- where no number is left nothing is left
-  pub none_left : (tasks : List Task) (ws : List PieceOf) (n : ℕ) → n ≡ 0 → Stands product two pairs tasks n ws → ws ≡ []
+  pub none_left : (tasks : List PendingPiece) (ws : List PieceOf) (n : ℕ) → n ≡ 0 → Stands product two pairs tasks n ws → ws ≡ []
   none_left tasks [] n e h = refl
   none_left tasks (w ∷ ws) n e h = absurd (let a = h.0 in omega (arith, a, e))
 
   -- a number is one of a task
-  pub one_left : (tasks : List Task) (ws : List PieceOf) (n : ℕ) → 0 < n → length tasks ≤ n - 1 → Stands product two pairs tasks n ws → ⊥
+  pub one_left : (tasks : List PendingPiece) (ws : List PieceOf) (n : ℕ) → 0 < n → length tasks ≤ n - 1 → Stands product two pairs tasks n ws → ⊥
   one_left tasks ws n e h s = let b = stands_within tasks ws n s in omega (arith, e, h, b)
 
   -- the next piece is that of the next task
-  pub next_left : (tasks : List Task) (ws : List PieceOf) (n : ℕ) (t : Task) → 0 < n → t ≡ task_at tasks (n - 1) → Stands product two pairs tasks n ws →
+  pub next_left : (tasks : List PendingPiece) (ws : List PieceOf) (n : ℕ) (t : PendingPiece) → 0 < n → t ≡ task_at tasks (n - 1) → Stands product two pairs tasks n ws →
       (rest : List PieceOf) × (ws ≡ piece_of pairs t.piece ∷ rest) × (t.rest < n) × BoundsAll product two ws t.bound × Stands product two pairs tasks t.rest rest
   next_left tasks [] n t b e h = absurd (omega (arith, b, h))
   next_left tasks (w ∷ ws) n t b e h = (
     ws,
-    ap (λ x. x ∷ ws) (sym h.2) ∙ ap (λ (x : Task). piece_of pairs x.piece ∷ ws) (sym e),
-    subst (λ (x : Task). x.rest < n) (sym e) h.3,
-    subst (λ (x : Task). BoundsAll product two (w ∷ ws) x.bound) (sym e) h.4,
-    subst (λ (x : Task). Stands product two pairs tasks x.rest ws) (sym e) h.5,
+    ap (λ x. x ∷ ws) (sym h.2) ∙ ap (λ (x : PendingPiece). piece_of pairs x.piece ∷ ws) (sym e),
+    subst (λ (x : PendingPiece). x.rest < n) (sym e) h.3,
+    subst (λ (x : PendingPiece). BoundsAll product two (w ∷ ws) x.bound) (sym e) h.4,
+    subst (λ (x : PendingPiece). Stands product two pairs tasks x.rest ws) (sym e) h.5,
   )
 
   -- a task more, before what was left
   pub task_put :
-      (tasks new : List Task) (t : Task) (ws : List PieceOf) (n k : ℕ) → new ≡ tasks ++ t ∷ [] → k ≡ length new → t.rest ≡ n → BoundsAll product two (piece_of pairs t.piece ∷ ws) t.bound →
+      (tasks new : List PendingPiece) (t : PendingPiece) (ws : List PieceOf) (n k : ℕ) → new ≡ tasks ++ t ∷ [] → k ≡ length new → t.rest ≡ n → BoundsAll product two (piece_of pairs t.piece ∷ ws) t.bound →
       Stands product two pairs tasks n ws → Stands product two pairs new k (piece_of pairs t.piece ∷ ws)
   task_put tasks new t ws n k e at rest bound h =
       let long : length new ≡ length tasks + 1 = ap length e ∙ length-append tasks (t ∷ []) in
@@ -123,10 +123,10 @@ module _ (product : ℕ → ℕ → ℕ) (two : List (TransducerRule ℕ)) (pair
       let within = stands_within tasks ws n h in (
         omega (arith, at, long),
         omega (arith, at),
-        ap (λ (x : Task). piece_of pairs x.piece) is,
-        subst (λ (x : Task). x.rest < k) (sym is) (omega (arith, rest, within, at, long)),
-        subst (λ (x : Task). BoundsAll product two (piece_of pairs t.piece ∷ ws) x.bound) (sym is) bound,
-        subst (λ (x : Task). Stands product two pairs new x.rest ws) (sym is)
+        ap (λ (x : PendingPiece). piece_of pairs x.piece) is,
+        subst (λ (x : PendingPiece). x.rest < k) (sym is) (omega (arith, rest, within, at, long)),
+        subst (λ (x : PendingPiece). BoundsAll product two (piece_of pairs t.piece ∷ ws) x.bound) (sym is) bound,
+        subst (λ (x : PendingPiece). Stands product two pairs new x.rest ws) (sym is)
             (subst (λ ts. Stands product two pairs ts t.rest ws) (sym e) (subst (λ m. Stands product two pairs (tasks ++ t ∷ []) m ws) (sym rest) (stands_longer tasks (t ∷ []) ws n h))),
       )
 
@@ -149,7 +149,7 @@ puts_both a b c x y = record {
 -- the same tasks from the same number on
 pub stands_moved : (product : ℕ → ℕ → ℕ) (two : List (TransducerRule ℕ)) (pairs : List (Symbol ℕ (Pair ℕ) × ℕ)) (old new : Pending) (ws : List PieceOf) → new.tasks ≡ old.tasks → new.next ≡ old.next → Holds product two pairs old ws → Holds product two pairs new ws
 stands_moved product two pairs old new ws e f h =
-    subst (λ n. Stands product two pairs new.tasks.items n ws) (sym f) (subst (λ (ts : Vec Task). Stands product two pairs ts.items old.next ws) (sym e) h)
+    subst (λ n. Stands product two pairs new.tasks.items n ws) (sym f) (subst (λ (ts : Vec PendingPiece). Stands product two pairs ts.items old.next ws) (sym e) h)
 
 -- a test that an index is within fails beyond
 pub beyond : {A : Type 0} (xs ys : List A) (i : ℕ) → xs ≡ ys → false ≡ ltb i (length xs) → length ys ≤ i

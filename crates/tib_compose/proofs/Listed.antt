@@ -15,18 +15,18 @@ use Rattle.tib_grammar.proofs.Holes.{holes_of_items}
 use Rattle.tib_expand.specs.EdgeLists.{IsWithin, key_at}
 use Rattle.tib_expand.specs.declared.place.Place.{Place}
 use Rattle.tib_expand.specs.declared.place.Place.TheVariants.{Known}
-use Rattle.tib_keyed.proofs.Ends.{within_wider, place_stays}
+use Rattle.tib_key_edges.proofs.Ends.{within_wider, place_stays}
 use Rattle.tib_transducer.specs.Rules.{states_in}
 use Rattle.tib_transducer.specs.declared.Pair.{Pair}
 use Rattle.tib_transducer.specs.declared.Variable.{Variable}
 use Rattle.tib_transducer.specs.declared.TransducerRule.{TransducerRule}
 use Rattle.tib_transducer.specs.NamedPairs.{named_pair, named_item}
 use Rattle.tib_transducer.proofs.NamedItems.{preorder-named}
-use Rattle.tib_keyed.specs.Composition.{ends_of, edge_parts}
-use Rattle.tib_keyed.specs.Named.{named_transducer_rule}
+use Rattle.tib_key_edges.specs.Composition.{ends_of, edge_parts}
+use Rattle.tib_key_edges.specs.Named.{named_transducer_rule}
 use Rattle.tib_compose.specs.EdgeLaws.{places_of, rule_of, all_states, reads_rule}
-use Rattle.tib_compose.specs.Listing.{placed, keys_in, all_ends, edge_of, IsAdded, IsTooMuch, IsListing}
-use Rattle.tib_compose.specs.declared.listing.Listing.{Listing}
+use Rattle.tib_compose.specs.CompositionListing.{placed, keys_in, all_ends, edge_of, IsAdded, IsTooMuch, IsListing}
+use Rattle.tib_compose.specs.declared.listing.CompositionListing.{CompositionListing}
 use Rattle.tib_compose.specs.declared.placed_rule.PlacedRule.{PlacedRule}
 
 -- sizes
@@ -155,7 +155,7 @@ module _ (order : List (ℕ × ℕ)) (key : ℕ × ℕ) (es : List (TransducerRu
       omega (arith, a, b, size_is t, size_is s, ap length e, length-map done pair_of, length-map (placed (length xs) done) pair_of, length-placed (length xs) done)
 
   -- a list with one more edge
-  pub listing_added : (old new : Listing) → IsAdded left done cost old new → IsListing order key es old → IsListing order key (es ++ edge ∷ []) new
+  pub listing_added : (old new : CompositionListing) → IsAdded left done cost old new → IsListing order key es old → IsListing order key (es ++ edge ∷ []) new
   listing_added old new a h =
       let keys : List (ℕ × ℕ) = keys_in done in
       let xs : List (ℕ × ℕ) = old.ends.items in
@@ -191,5 +191,5 @@ module _ (order : List (ℕ × ℕ)) (key : ℕ × ℕ) (es : List (TransducerRu
       }
 
   -- an edge that is too much
-  pub listing_overruns : (old : Listing) → IsTooMuch left done old → IsListing order key es old → old.budget < total edge_parts (es ++ edge ∷ [])
+  pub listing_overruns : (old : CompositionListing) → IsTooMuch left done old → IsListing order key es old → old.budget < total edge_parts (es ++ edge ∷ [])
   listing_overruns old m h = omega (arith, m.more, h.counted, total_more es edge, edge_size old.ends.items m.side m.right)

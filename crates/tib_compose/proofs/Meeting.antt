@@ -5,8 +5,8 @@ use Rattle.tib_transducer.specs.Rules.{transducer_rule, states_in}
 use Rattle.tib_transducer.specs.Range.{AreShaped, AreWithin}
 use Rattle.tib_transducer.specs.declared.TransducerRule.{TransducerRule}
 use Rattle.tib_transducer.specs.Outside.{demands, AllMeet}
-use Rattle.tib_keyed.specs.Plain.{ArePlain}
-use Rattle.tib_keyed.proofs.Translating.{is_over}
+use Rattle.tib_key_edges.specs.Plain.{ArePlain}
+use Rattle.tib_key_edges.proofs.Translating.{is_over}
 use Rattle.tib_compose.specs.Readers.{AreFlat}
 use Rattle.tib_compose.specs.EdgeLaws.{StatesBelow}
 

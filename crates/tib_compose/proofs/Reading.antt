@@ -10,9 +10,9 @@ use Rattle.tib_grammar.specs.declared.Item.TheVariants.{Label}
 use Rattle.tib_grammar.specs.ShapeBuckets.{same_shape}
 use Rattle.tib_transducer.specs.Rules.{transducer_rule}
 use Rattle.tib_transducer.specs.declared.TransducerRule.{TransducerRule}
-use Rattle.tib_keyed.specs.Choices.{reads_label}
+use Rattle.tib_key_edges.specs.Choices.{reads_label}
 use Rattle.tib_compose.specs.Readers.{readers, IsFlat}
-use Rattle.tib_keyed.proofs.Choosing.{are_holes_of}
+use Rattle.tib_key_edges.proofs.Choosing.{are_holes_of}
 
 -- the first item of a side that has a label at its root
 pub first_item : {P : Type 0} (items : List (Item P)) (s : SideFor ℕ P) (f n : ℕ) → pairs_of items ≡ preorder_of s → get_or items 0 (Label 0 0) ≡ Label f n → (s.label ≡ label f) × (count s.kids ≡ n)

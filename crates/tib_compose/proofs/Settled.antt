@@ -15,7 +15,7 @@ use Rattle.tib_expand.specs.Reading.{ReadsAlike, HasPositions}
 use Rattle.tib_transducer.specs.declared.Pair.{Pair}
 use Rattle.tib_transducer.specs.declared.TransducerRule.{TransducerRule}
 use Rattle.tib_transducer.specs.NamedPairs.{named_pair}
-use Rattle.tib_keyed.specs.Named.{named_transducer_rule}
+use Rattle.tib_key_edges.specs.Named.{named_transducer_rule}
 use Rattle.tib_compose.specs.EdgeLaws.{all_states, places_of, rule_of, compose_reading}
 use Rattle.tib_compose.specs.NamedItems.{HolesAreWithin}
 use Rattle.tib_compose.specs.declared.placed_rule.PlacedRule.{PlacedRule}

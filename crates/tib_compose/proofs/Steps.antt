@@ -16,11 +16,11 @@ use Rattle.tib_transducer.specs.Rules.{transducer_rule}
 use Rattle.tib_transducer.specs.declared.Pair.{Pair}
 use Rattle.tib_transducer.specs.declared.Variable.{Variable}
 use Rattle.tib_transducer.specs.declared.TransducerRule.{TransducerRule}
-use Rattle.tib_keyed.specs.Choices.{reads_label}
-use Rattle.tib_keyed.specs.Composition.{edge_parts}
-use Rattle.tib_keyed.specs.Pieces.{Piece as PieceOf, Result, results, pieces_of}
+use Rattle.tib_key_edges.specs.Choices.{reads_label}
+use Rattle.tib_key_edges.specs.Composition.{edge_parts}
+use Rattle.tib_key_edges.specs.Pieces.{Piece as PieceOf, Result, results, pieces_of}
 use Rattle.tib_compose.specs.Branches.{IsAdvanced}
-use Rattle.tib_compose.specs.Listing.{edge_of, IsListing, IsAdded, IsTooMuch}
+use Rattle.tib_compose.specs.CompositionListing.{edge_of, IsListing, IsAdded, IsTooMuch}
 use Rattle.tib_compose.specs.Pending.{BoundsAll, Holds, Stands, Extends}
 use Rattle.tib_compose.specs.PieceViews.{kids_there}
 use Rattle.tib_compose.specs.Readers.{readers, readers_with}
@@ -29,9 +29,9 @@ use Rattle.tib_compose.specs.Sources.{IsSource, PutsPieces}
 use Rattle.tib_compose.specs.Walk.{AreReady, result_edges, ReadComes, IsRead, IsUnderway, IsOnBranch}
 use Rattle.tib_compose.specs.declared.branch.Branch.{Branch}
 use Rattle.tib_compose.specs.declared.branch.Reading.{Reading}
-use Rattle.tib_compose.specs.declared.listing.Listing.{Listing}
-use Rattle.tib_compose.specs.declared.pending.Task.{Task}
-use Rattle.tib_compose.specs.declared.search.Turn.{Turn}
+use Rattle.tib_compose.specs.declared.listing.CompositionListing.{CompositionListing}
+use Rattle.tib_compose.specs.declared.pending.PendingPiece.{PendingPiece}
+use Rattle.tib_compose.specs.declared.search.ReturnPoint.{ReturnPoint}
 use Rattle.tib_compose.specs.declared.search.Search.{Search}
 use Rattle.tib_compose.specs.declared.source.Source.{Source}
 use Rattle.tib_compose.proofs.Listed.{listing_added, listing_overruns}
@@ -54,7 +54,7 @@ none_cut n e = elim (nat_le_cases n most) [ inl k ↦ absurd (not_some n (sym (s
 
 -- a branch reads a label by a rule
 
-module _ {levelled weighted : Bool} {product : ℕ → ℕ → ℕ} (laws : ProductLaws levelled weighted product) (two : List (TransducerRule ℕ)) (source : Source) (t : Turn) (m : ℕ) where
+module _ {levelled weighted : Bool} {product : ℕ → ℕ → ℕ} (laws : ProductLaws levelled weighted product) (two : List (TransducerRule ℕ)) (source : Source) (t : ReturnPoint) (m : ℕ) where
   -- at a cost above the greatest
   pub read_dear : (b : Branch) → cut (product t.cost (transducer_rule two m).cost) ≡ None → IsRead product two source t m b b false
   read_dear b e = record {
@@ -107,19 +107,19 @@ module _ (source : Source) (left : SideFor ℕ Variable) (product : ℕ → ℕ 
   turns_stay : (old : Search) (b : Branch) (rs : List Result) → b.pending.tasks ≡ old.branch.pending.tasks → Extends old.branch.done.items b.done.items → Remains product two pairs old rs →
       AreTurns product two pairs (reverse old.turns.items) b.done.items b.pending.tasks.items rs
   turns_stay old b rs e d h =
-      let tasks : b.pending.tasks.items ≡ old.branch.pending.tasks.items ++ [] = ap (λ (v : Vec Task). v.items) e ∙ sym (append-nil old.branch.pending.tasks.items) in
+      let tasks : b.pending.tasks.items ≡ old.branch.pending.tasks.items ++ [] = ap (λ (v : Vec PendingPiece). v.items) e ∙ sym (append-nil old.branch.pending.tasks.items) in
       subst (λ xs. AreTurns product two pairs (reverse old.turns.items) xs b.pending.tasks.items rs) (sym d.1)
       (subst (λ xs. AreTurns product two pairs (reverse old.turns.items) (old.branch.done.items ++ d.0) xs rs) (sym tasks)
       (turns_longer product two pairs (reverse old.turns.items) old.branch.done.items d.0 old.branch.pending.tasks.items [] rs h))
 
   -- up to a label
   pub on_to_label :
-      (old new : Search) (b : Branch) (r : Reading) (before : Listing) → IsAdvanced source.items.now old.branch b (Some r) → Meets r (record { branch = b; turns = old.turns }) new →
+      (old new : Search) (b : Branch) (r : Reading) (before : CompositionListing) → IsAdvanced source.items.now old.branch b (Some r) → Meets r (record { branch = b; turns = old.turns }) new →
       IsOnBranch product two source left order key all old before → IsUnderway product two source left order key all new before
   on_to_label old new b r before a meets h =
       let kids = kids_there pairs r.node r.rank in
       let come = a.comes product two ready.goes h.pieces h.holds in
-      let u : Turn = turn_at r (record { branch = b; turns = old.turns }) in
+      let u : ReturnPoint = turn_at r (record { branch = b; turns = old.turns }) in
       let many : count kids ≡ r.rank = kids_count source.items.now r.node r.label r.rank known.children a.at.0 a.at.1 in
       let same : affordable (results product two old.branch.cost (pairs_of old.branch.done.items) h.pieces) ≡ turn_results product two pairs u (pairs_of b.done.items) come.0 =
       ap affordable come.2
@@ -140,7 +140,7 @@ module _ (source : Source) (left : SideFor ℕ Variable) (product : ℕ → ℕ 
       }
 
   -- up to the end
-  module _ (old new : Search) (before : Listing) (a : IsAdvanced source.items.now old.branch new.branch None) (cheap : new.branch.cost ≤ most) (h : IsOnBranch product two source left order key all old before) where
+  module _ (old new : Search) (before : CompositionListing) (a : IsAdvanced source.items.now old.branch new.branch None) (cheap : new.branch.cost ≤ most) (h : IsOnBranch product two source left order key all old before) where
     abbrev edge_here : TransducerRule (ℕ × ℕ)
     edge_here = edge_of key left (pairs_of new.branch.done.items) new.branch.cost
 
@@ -154,12 +154,12 @@ module _ (source : Source) (left : SideFor ℕ Variable) (product : ℕ → ℕ 
         append_assoc h.listed (edge_here ∷ []) (result_edges key left h.left_over)
         ∙ subst (λ rs. h.listed ++ result_edges key left (rs ++ h.left_over) ≡ all) one_result h.whole
 
-    pub on_to_end : (after : Listing) → new.turns ≡ old.turns → IsAdded left new.branch.done.items new.branch.cost before after → IsUnderway product two source left order key all new after
+    pub on_to_end : (after : CompositionListing) → new.turns ≡ old.turns → IsAdded left new.branch.done.items new.branch.cost before after → IsUnderway product two source left order key all new after
     on_to_end after turns added = record {
       listed = h.listed ++ edge_here ∷ [];
       left_over = h.left_over;
       lists = listing_added order key h.listed left new.branch.done.items new.branch.cost before after added h.lists;
-      remains = subst (λ (ts : Vec Turn). AreTurns product two pairs (reverse ts.items) new.branch.done.items new.branch.pending.tasks.items h.left_over) (sym turns)
+      remains = subst (λ (ts : Vec ReturnPoint). AreTurns product two pairs (reverse ts.items) new.branch.done.items new.branch.pending.tasks.items h.left_over) (sym turns)
           (turns_stay old new.branch h.left_over a.puts.tasks a.puts.done h.remains);
       whole = one_more;
     }
@@ -173,7 +173,7 @@ module _ (source : Source) (left : SideFor ℕ Variable) (product : ℕ → ℕ 
         omega (arith, over, front)
 
   -- a turn is taken
-  module _ (old : Search) (before : Listing) (h : IsUnderway product two source left order key all old before) (ts : List Turn) (t : Turn) (is : old.turns.items ≡ ts ++ t ∷ []) where
+  module _ (old : Search) (before : CompositionListing) (h : IsUnderway product two source left order key all old before) (ts : List ReturnPoint) (t : ReturnPoint) (is : old.turns.items ≡ ts ++ t ∷ []) where
     below : AreTurns product two pairs (t ∷ reverse ts) old.branch.done.items old.branch.pending.tasks.items h.left_over
     below = subst (λ us. AreTurns product two pairs us old.branch.done.items old.branch.pending.tasks.items h.left_over) (turns_reverse ts old.turns.items t is) h.remains
 
@@ -227,8 +227,8 @@ module _ (source : Source) (left : SideFor ℕ Variable) (product : ℕ → ℕ 
       remains_now : {alive : Bool} → IsRead product two source t m start b alive → Remains product two pairs new left_now
       remains_now {alive} read =
           let first : List (Item (Pair (ℕ × ℕ))) = take t.done old.branch.done.items in
-          let there : List Task = take t.tasks old.branch.pending.tasks.items in
-          let u : List Turn = tried_more t ∷ reverse ts in
+          let there : List PendingPiece = take t.tasks old.branch.pending.tasks.items in
+          let u : List ReturnPoint = tried_more t ∷ reverse ts in
           let a : AreTurns product two pairs u first there (turn_results product two pairs (tried_more t) (pairs_of first) below.0 ++ below.1) =
           turn_tried product two pairs t (tried_more t) (reverse ts) old.branch.done.items old.branch.pending.tasks.items below.0 below.1 refl refl refl below.2 below.3 below.4 below.6
           in

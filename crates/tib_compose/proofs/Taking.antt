@@ -10,7 +10,7 @@ use Rattle.tib_grammar.specs.declared.Item.{Item}
 use Rattle.tib_grammar.specs.declared.Item.TheVariants.{Label, Hole}
 use Rattle.tib_transducer.specs.declared.Pair.{Pair}
 use Rattle.tib_transducer.specs.declared.TransducerRule.{TransducerRule}
-use Rattle.tib_keyed.specs.Pieces.{Piece as PieceOf, put, read, pieces_of, results, results_by, GoesByPieces}
+use Rattle.tib_key_edges.specs.Pieces.{Piece as PieceOf, put, read, pieces_of, results, results_by, GoesByPieces}
 use Rattle.tib_compose.specs.declared.pending.Piece.{Piece}
 use Rattle.tib_compose.specs.declared.pending.Piece.TheVariants.{Read}
 use Rattle.tib_compose.specs.PieceViews.{side_there, kids_there, piece_of, piece_below, IsKnown, AreKnown}

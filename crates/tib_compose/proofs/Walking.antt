@@ -18,20 +18,20 @@ use Rattle.tib_transducer.specs.Range.{AreShaped}
 use Rattle.tib_transducer.specs.declared.Pair.{Pair}
 use Rattle.tib_transducer.specs.declared.Variable.{Variable}
 use Rattle.tib_transducer.specs.declared.TransducerRule.{TransducerRule}
-use Rattle.tib_keyed.specs.Choices.{reads_label}
-use Rattle.tib_keyed.specs.Translations.{choice_cost}
-use Rattle.tib_keyed.specs.Completions.{completions}
-use Rattle.tib_keyed.specs.Composition.{edge_parts}
-use Rattle.tib_keyed.specs.Pieces.{Piece as PieceOf, Result, results, results_by, result_of, sides_of, states_of, pieces_of}
-use Rattle.tib_keyed.proofs.Choosing.{within_sides, reads_over}
-use Rattle.tib_compose.specs.Listing.{edge_of}
+use Rattle.tib_key_edges.specs.Choices.{reads_label}
+use Rattle.tib_key_edges.specs.Translations.{choice_cost}
+use Rattle.tib_key_edges.specs.Completions.{completions}
+use Rattle.tib_key_edges.specs.Composition.{edge_parts}
+use Rattle.tib_key_edges.specs.Pieces.{Piece as PieceOf, Result, results, results_by, result_of, sides_of, states_of, pieces_of}
+use Rattle.tib_key_edges.proofs.Choosing.{within_sides, reads_over}
+use Rattle.tib_compose.specs.CompositionListing.{edge_of}
 use Rattle.tib_compose.specs.Pending.{IsAtLeast, BoundsAll, Stands, Extends, task_at}
 use Rattle.tib_compose.specs.PieceViews.{kids_there, AreKnown, IsKnown}
 use Rattle.tib_compose.specs.Readers.{readers, readers_with}
 use Rattle.tib_compose.specs.Searches.{affordable, all_of, reader_results, turn_results, AreTurns}
 use Rattle.tib_compose.specs.Walk.{result_edges}
-use Rattle.tib_compose.specs.declared.pending.Task.{Task}
-use Rattle.tib_compose.specs.declared.search.Turn.{Turn}
+use Rattle.tib_compose.specs.declared.pending.PendingPiece.{PendingPiece}
+use Rattle.tib_compose.specs.declared.search.ReturnPoint.{ReturnPoint}
 
 -- results up to the greatest cost
 
@@ -190,7 +190,7 @@ length_take (suc n) (x ∷ xs) h = ap suc (length_take n xs (omega arith))
 module _ (product : ℕ → ℕ → ℕ) (two : List (TransducerRule ℕ)) (pairs : List (Symbol ℕ (Pair ℕ) × ℕ)) where
   -- what was put out and the tasks may grow
   pub turns_longer :
-      (ts : List Turn) (done more : List (Item (Pair (ℕ × ℕ)))) (tasks others : List Task) (rs : List Result) →
+      (ts : List ReturnPoint) (done more : List (Item (Pair (ℕ × ℕ)))) (tasks others : List PendingPiece) (rs : List Result) →
       AreTurns product two pairs ts done tasks rs → AreTurns product two pairs ts (done ++ more) (tasks ++ others) rs
   turns_longer [] done more tasks others rs h = h
   turns_longer (t ∷ ts) done more tasks others rs h =
@@ -207,7 +207,7 @@ module _ (product : ℕ → ℕ → ℕ) (two : List (TransducerRule ℕ)) (pair
 
   -- a turn at which one more rule was tried, over what it comes back to
   pub turn_tried :
-      (t u : Turn) (ts : List Turn) (done : List (Item (Pair (ℕ × ℕ)))) (tasks : List Task) (ws : List PieceOf) (later : List Result) →
+      (t u : ReturnPoint) (ts : List ReturnPoint) (done : List (Item (Pair (ℕ × ℕ)))) (tasks : List PendingPiece) (ws : List PieceOf) (later : List Result) →
       u.done ≡ t.done → u.tasks ≡ t.tasks → u.next ≡ t.next → t.done ≤ length done → t.tasks ≤ length tasks → Stands product two pairs (take t.tasks tasks) t.next ws →
       AreTurns product two pairs ts (take t.done done) (take t.tasks tasks) later →
       AreTurns product two pairs (u ∷ ts) (take t.done done) (take t.tasks tasks) (turn_results product two pairs u (pairs_of (take t.done done)) ws ++ later)
@@ -225,7 +225,7 @@ module _ (product : ℕ → ℕ → ℕ) (two : List (TransducerRule ℕ)) (pair
 
   -- a new turn
   pub turn_new :
-      (u : Turn) (ts : List Turn) (done : List (Item (Pair (ℕ × ℕ)))) (tasks : List Task) (ws : List PieceOf) (later : List Result) → u.done ≡ length done → u.tasks ≡ length tasks →
+      (u : ReturnPoint) (ts : List ReturnPoint) (done : List (Item (Pair (ℕ × ℕ)))) (tasks : List PendingPiece) (ws : List PieceOf) (later : List Result) → u.done ≡ length done → u.tasks ≡ length tasks →
       Stands product two pairs tasks u.next ws → AreTurns product two pairs ts done tasks later → AreTurns product two pairs (u ∷ ts) done tasks (turn_results product two pairs u (pairs_of done) ws ++ later)
   turn_new u ts done tasks ws later d k stands below =
       let e : take u.done done ≡ done = ap (λ i. take i done) d ∙ take_whole done in
@@ -240,12 +240,12 @@ module _ (product : ℕ → ℕ → ℕ) (two : List (TransducerRule ℕ)) (pair
       )
 
 -- the last turn comes first
-pub turns_reverse : (ts us : List Turn) (t : Turn) → us ≡ ts ++ t ∷ [] → reverse us ≡ t ∷ reverse ts
+pub turns_reverse : (ts us : List ReturnPoint) (t : ReturnPoint) → us ≡ ts ++ t ∷ [] → reverse us ≡ t ∷ reverse ts
 turns_reverse ts us t e = ap (λ xs. reverse xs) e ∙ reverse-append ts (t ∷ [])
 
 -- a turn with no rule left is dropped
 pub turn_over :
-    (product : ℕ → ℕ → ℕ) (two : List (TransducerRule ℕ)) (pairs : List (Symbol ℕ (Pair ℕ) × ℕ)) (ts : List Turn) (n k : ℕ) (done : List (Item (Pair (ℕ × ℕ)))) (tasks : List Task) (rs : List Result) →
+    (product : ℕ → ℕ → ℕ) (two : List (TransducerRule ℕ)) (pairs : List (Symbol ℕ (Pair ℕ) × ℕ)) (ts : List ReturnPoint) (n k : ℕ) (done : List (Item (Pair (ℕ × ℕ)))) (tasks : List PendingPiece) (rs : List Result) →
     AreTurns product two pairs ts (take n done) (take k tasks) rs → AreTurns product two pairs ts done tasks rs
 turn_over product two pairs ts n k done tasks rs h =
     subst (λ xs. AreTurns product two pairs ts xs tasks rs) (take_drop n done)

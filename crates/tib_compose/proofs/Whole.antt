@@ -15,19 +15,19 @@ use Rattle.tib_transducer.specs.declared.Pair.{Pair}
 use Rattle.tib_transducer.specs.declared.TransducerRule.{TransducerRule}
 use Rattle.tib_transducer.specs.Moves.{moves_of}
 use Rattle.tib_transducer.proofs.Moves.{moves_next, own}
-use Rattle.tib_keyed.specs.Translations.{translated, choice_cost}
-use Rattle.tib_keyed.specs.Choices.{choices_of, cheap, edge_from, edges_of, origins_of}
-use Rattle.tib_keyed.specs.Composition.{edge_parts}
-use Rattle.tib_keyed.specs.Flat.{substituted}
-use Rattle.tib_keyed.specs.Pieces.{Result, results, read, put}
+use Rattle.tib_key_edges.specs.Translations.{translated, choice_cost}
+use Rattle.tib_key_edges.specs.Choices.{choices_of, cheap, edge_from, edges_of, origins_of}
+use Rattle.tib_key_edges.specs.Composition.{edge_parts}
+use Rattle.tib_key_edges.specs.Flat.{substituted}
+use Rattle.tib_key_edges.specs.Pieces.{Result, results, read, put}
 use Rattle.tib_compose.specs.KeyEdges.{rule_edges}
-use Rattle.tib_compose.specs.Listing.{edge_of, IsListing}
+use Rattle.tib_compose.specs.CompositionListing.{edge_of, IsListing}
 use Rattle.tib_compose.specs.PieceViews.{side_there}
 use Rattle.tib_compose.specs.Searches.{affordable, all_of, AreTurns, Begins}
 use Rattle.tib_compose.specs.Sources.{IsSource}
 use Rattle.tib_compose.specs.Walk.{AreReady, result_edges, IsOnBranch}
-use Rattle.tib_compose.specs.declared.listing.Listing.{Listing}
-use Rattle.tib_compose.specs.declared.search.Turn.{Turn}
+use Rattle.tib_compose.specs.declared.listing.CompositionListing.{CompositionListing}
+use Rattle.tib_compose.specs.declared.search.ReturnPoint.{ReturnPoint}
 use Rattle.tib_compose.specs.declared.search.Search.{Search}
 use Rattle.tib_compose.specs.declared.source.Source.{Source}
 use Rattle.tib_compose.proofs.Walking.{total_front, all_append}
@@ -78,7 +78,7 @@ module _ (product : ℕ → ℕ → ℕ) (one two : List (TransducerRule ℕ)) (
   module _ (ready : AreReady product two) (source : Source) (items : pairs_of source.items.now ≡ preorder_of (transducer_rule one n).right) where
     -- the walk begins
     pub walk_begins :
-        (search : Search) → Begins product (transducer_rule one n).cost key.1 search → (order : List (ℕ × ℕ)) (es : List (TransducerRule (ℕ × ℕ))) (before : Listing) → IsListing order key es before →
+        (search : Search) → Begins product (transducer_rule one n).cost key.1 search → (order : List (ℕ × ℕ)) (es : List (TransducerRule (ℕ × ℕ))) (before : CompositionListing) → IsListing order key es before →
         IsOnBranch product two source (transducer_rule one n).left order key (es ++ rule_edges product one two key n) search before
     walk_begins search b order es before lists = record {
       listed = es;
@@ -86,7 +86,7 @@ module _ (product : ℕ → ℕ → ℕ) (one two : List (TransducerRule ℕ)) (
       left_over = [];
       lists = lists;
       holds = b.left two (pairs_of source.items.now);
-      remains = subst (λ (ts : List Turn). AreTurns product two (pairs_of source.items.now) (reverse ts) search.branch.done.items search.branch.pending.tasks.items []) (sym b.turns) refl;
+      remains = subst (λ (ts : List ReturnPoint). AreTurns product two (pairs_of source.items.now) (reverse ts) search.branch.done.items search.branch.pending.tasks.items []) (sym b.turns) refl;
       whole = ap (λ xs. es ++ xs)
           (ap (result_edges key (transducer_rule one n).left) (append-nil (affordable (results product two search.branch.cost (pairs_of search.branch.done.items) (read (side_there (pairs_of source.items.now) 0) key.1 ∷ []))))
           ∙ ap (λ k. result_edges key (transducer_rule one n).left (affordable (results product two k (pairs_of search.branch.done.items) (read (side_there (pairs_of source.items.now) 0) key.1 ∷ [])))) b.costs

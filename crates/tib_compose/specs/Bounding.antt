@@ -5,10 +5,10 @@ use Rattle.tib_tree.specs.Trees.{Trees, preorder_of}
 use Rattle.tib_grammar.specs.Items.{pairs_of}
 use Rattle.tib_transducer.specs.Rules.{transducer_rule}
 use Rattle.tib_transducer.specs.declared.TransducerRule.{TransducerRule}
-use Rattle.tib_keyed.specs.Choices.{reads_label}
-use Rattle.tib_keyed.specs.Completions.{completions}
-use Rattle.tib_keyed.specs.Pieces.{Piece as PieceOf, pieces_of, sides_of, states_of}
-use Rattle.tib_keyed.specs.Translations.{choice_cost}
+use Rattle.tib_key_edges.specs.Choices.{reads_label}
+use Rattle.tib_key_edges.specs.Completions.{completions}
+use Rattle.tib_key_edges.specs.Pieces.{Piece as PieceOf, pieces_of, sides_of, states_of}
+use Rattle.tib_key_edges.specs.Translations.{choice_cost}
 use Rattle.tib_compose.specs.Pending.{IsAtLeast}
 use Rattle.tib_compose.specs.PieceViews.{kids_there}
 use Rattle.tib_compose.specs.Readers.{readers_with}

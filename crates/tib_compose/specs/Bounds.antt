@@ -4,7 +4,7 @@ use Rattle.std.specs.HashMap.{get}
 use Rattle.tib_grammar.specs.Sides.{Symbol}
 use Rattle.tib_transducer.specs.declared.Pair.{Pair}
 use Rattle.tib_transducer.specs.declared.TransducerRule.{TransducerRule}
-use Rattle.tib_keyed.specs.Pieces.{read}
+use Rattle.tib_key_edges.specs.Pieces.{read}
 use Rattle.tib_compose.specs.Pending.{BoundsPiece}
 use Rattle.tib_compose.specs.PieceViews.{side_there}
 use Rattle.tib_compose.specs.declared.bounds.Bounds.{Bounds}

@@ -4,13 +4,13 @@ use Rattle.tib_lex.specs.Lists.{Each}
 use Rattle.tib_cost.specs.Semiring.{most}
 use Rattle.tib_expand.specs.Reached.{IsReachedSet, parts_of}
 use Rattle.tib_expand.specs.declared.found.Found.{Found}
-use Rattle.tib_keyed.specs.Ends.{key_at}
+use Rattle.tib_key_edges.specs.Ends.{key_at}
 use Rattle.tib_transducer.specs.Range.{AreShaped, AreWithin}
 use Rattle.tib_transducer.specs.Rules.{transducer_rule}
 use Rattle.tib_transducer.specs.declared.TransducerRule.{TransducerRule}
 use Rattle.tib_transducer.specs.Outside.{demands, AllMeet, IsFirstOutside}
-use Rattle.tib_keyed.specs.Composition.{composition}
-use Rattle.tib_keyed.specs.Named.{named_transducer_rule}
+use Rattle.tib_key_edges.specs.Composition.{composition}
+use Rattle.tib_key_edges.specs.Named.{named_transducer_rule}
 use Rattle.tib_compose.specs.declared.error.ComposeError.{ComposeError}
 use Rattle.tib_compose.specs.declared.error.ComposeError.TheVariants.{Class, TooMany, OutOfMemory}
 

@@ -9,23 +9,23 @@ use Rattle.tib_grammar.specs.Sides.{Symbol, label, hole, symbol_map, side_map}
 use Rattle.tib_grammar.specs.Range.{AllBelow}
 use Rattle.tib_grammar.proofs.Members.{each_has, has_at}
 use Rattle.tib_transducer.specs.Rules.{transducer_rule, states_in}
-use Rattle.tib_keyed.specs.Named.{named_transducer_rule}
+use Rattle.tib_key_edges.specs.Named.{named_transducer_rule}
 use Rattle.tib_transducer.specs.Range.{AreWithin}
-use Rattle.tib_keyed.specs.Composing.{IsComposeEdge}
+use Rattle.tib_key_edges.specs.Composing.{IsComposeEdge}
 use Rattle.tib_expand.specs.Lawful.{IsLawful}
 use Rattle.tib_expand.specs.Reading.{Reading}
 use Rattle.tib_expand.specs.declared.place.Place.{Place}
 use Rattle.tib_expand.specs.declared.place.Place.TheVariants.{Known}
 use Rattle.tib_compose.specs.declared.placed_rule.PlacedRule.{PlacedRule}
-use Rattle.tib_keyed.specs.Ends.{key_at}
-use Rattle.tib_keyed.proofs.KeyOrders.{key_stays}
-use Rattle.tib_keyed.proofs.Pairs.{seed_within}
-use Rattle.tib_keyed.specs.Composition.{ends_of, composition}
-use Rattle.tib_keyed.proofs.Exact.{same_edge}
+use Rattle.tib_key_edges.specs.Ends.{key_at}
+use Rattle.tib_key_edges.proofs.KeyOrders.{key_stays}
+use Rattle.tib_key_edges.proofs.Pairs.{seed_within}
+use Rattle.tib_key_edges.specs.Composition.{ends_of, composition}
+use Rattle.tib_key_edges.proofs.Exact.{same_edge}
 use Rattle.tib_transducer.specs.declared.Pair.{Pair}
 use Rattle.tib_transducer.specs.declared.TransducerRule.{TransducerRule}
 use Rattle.tib_transducer.specs.NamedPairs.{named_pair}
-use Rattle.tib_keyed.proofs.Standing.{ends_are_in_range}
+use Rattle.tib_key_edges.proofs.Standing.{ends_are_in_range}
 
 -- the states that are anywhere in some sides
 abbrev pub all_states : {P : Type 0} → Trees (Symbol ℕ (Pair P)) → List P

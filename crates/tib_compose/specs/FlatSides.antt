@@ -9,14 +9,14 @@ use Rattle.tib_transducer.specs.Rules.{transducer_rule}
 use Rattle.tib_transducer.specs.declared.Pair.{Pair}
 use Rattle.tib_transducer.specs.declared.Variable.{Variable}
 use Rattle.tib_transducer.specs.declared.TransducerRule.{TransducerRule}
-use Rattle.tib_keyed.specs.Choices.{reads_label}
-use Rattle.tib_keyed.specs.Composition.{edge_parts}
-use Rattle.tib_keyed.specs.Pieces.{Piece as PieceOf, Result, GoesByPieces, pieces_of, results}
-use Rattle.tib_compose.specs.Listing.{IsListing}
+use Rattle.tib_key_edges.specs.Choices.{reads_label}
+use Rattle.tib_key_edges.specs.Composition.{edge_parts}
+use Rattle.tib_key_edges.specs.Pieces.{Piece as PieceOf, Result, GoesByPieces, pieces_of, results}
+use Rattle.tib_compose.specs.CompositionListing.{IsListing}
 use Rattle.tib_compose.specs.PieceViews.{AreKnown, IsKnown, kids_there, piece_below}
 use Rattle.tib_compose.specs.Searches.{reader_results}
 use Rattle.tib_compose.specs.Walk.{AreReady, result_edges}
-use Rattle.tib_compose.specs.declared.listing.Listing.{Listing}
+use Rattle.tib_compose.specs.declared.listing.CompositionListing.{CompositionListing}
 
 -- a pair as a leaf
 abbrev pub leaf : Pair ℕ → Symbol ℕ (Pair ℕ) × ℕ
@@ -49,13 +49,13 @@ kept (Some c) done = (c, done) ∷ []
 
 module _ (left : SideFor ℕ Variable) (done : List (Item (Pair (ℕ × ℕ)))) (cost : Option ℕ) where
   -- its edges come after those that were listed
-  abbrev pub ListsKept : Listing → Listing → Type 0
+  abbrev pub ListsKept : CompositionListing → CompositionListing → Type 0
   ListsKept old new =
       (order : List (ℕ × ℕ)) (key : ℕ × ℕ) (es : List (TransducerRule (ℕ × ℕ))) → IsListing order key es old →
       IsListing order key (es ++ result_edges key left (kept cost (pairs_of done))) new
 
   -- with them there are more parts than the budget
-  abbrev pub KeptOverruns : Listing → Type 0
+  abbrev pub KeptOverruns : CompositionListing → Type 0
   KeptOverruns old =
       (order : List (ℕ × ℕ)) (key : ℕ × ℕ) (es : List (TransducerRule (ℕ × ℕ))) → IsListing order key es old →
       old.budget < total edge_parts (es ++ result_edges key left (kept cost (pairs_of done)))
@@ -66,14 +66,14 @@ module _ (product : ℕ → ℕ → ℕ) (two : List (TransducerRule ℕ)) (rule
   flat_results n m = reader_results product two rule.cost [] (kids_there (pairs_of items) 0 n) [] m
 
   -- its edges come after those that were listed
-  abbrev pub ListsReader : ℕ → Listing → Listing → Type 0
+  abbrev pub ListsReader : ℕ → CompositionListing → CompositionListing → Type 0
   ListsReader m old new =
       AreReady product two → (p f n : ℕ) → IsFlatOver (pairs_of items) f n → m < length two → reads_label p f n (transducer_rule two m) ≡ true →
       (order : List (ℕ × ℕ)) (key : ℕ × ℕ) (es : List (TransducerRule (ℕ × ℕ))) → IsListing order key es old →
       IsListing order key (es ++ result_edges key rule.left (flat_results n m)) new
 
   -- with them there are more parts than the budget
-  abbrev pub ReaderOverruns : ℕ → Listing → Type 0
+  abbrev pub ReaderOverruns : ℕ → CompositionListing → Type 0
   ReaderOverruns m old =
       AreReady product two → (p f n : ℕ) → IsFlatOver (pairs_of items) f n → m < length two → reads_label p f n (transducer_rule two m) ≡ true →
       (order : List (ℕ × ℕ)) (key : ℕ × ℕ) (es : List (TransducerRule (ℕ × ℕ))) → IsListing order key es old →

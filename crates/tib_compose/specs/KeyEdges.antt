@@ -6,12 +6,12 @@ use Rattle.tib_tree.specs.Trees.{preorder_of}
 use Rattle.tib_grammar.specs.Items.{pairs_of}
 use Rattle.tib_transducer.specs.Rules.{transducer_rule}
 use Rattle.tib_transducer.specs.declared.TransducerRule.{TransducerRule}
-use Rattle.tib_keyed.specs.Choices.{choices_of, cheap, edge_from, edges_of}
-use Rattle.tib_keyed.specs.Composition.{edge_parts}
-use Rattle.tib_compose.specs.Listing.{IsListing}
+use Rattle.tib_key_edges.specs.Choices.{choices_of, cheap, edge_from, edges_of}
+use Rattle.tib_key_edges.specs.Composition.{edge_parts}
+use Rattle.tib_compose.specs.CompositionListing.{IsListing}
 use Rattle.tib_compose.specs.Sources.{IsSource}
 use Rattle.tib_compose.specs.Walk.{AreReady}
-use Rattle.tib_compose.specs.declared.listing.Listing.{Listing}
+use Rattle.tib_compose.specs.declared.listing.CompositionListing.{CompositionListing}
 use Rattle.tib_compose.specs.declared.source.Source.{Source}
 
 -- the source is the right-hand side of the rule
@@ -25,15 +25,15 @@ module _ (product : ℕ → ℕ → ℕ) (one two : List (TransducerRule ℕ)) (
   rule_edges n = map (edge_from product one two key) (cheap product one two n (choices_of two key.1 (transducer_rule one n).right))
 
   -- they come after those that were listed
-  abbrev pub ListsRule : ℕ → Listing → Listing → Type 0
+  abbrev pub ListsRule : ℕ → CompositionListing → CompositionListing → Type 0
   ListsRule n old new = (order : List (ℕ × ℕ)) (es : List (TransducerRule (ℕ × ℕ))) → IsListing order key es old → IsListing order key (es ++ rule_edges n) new
 
   -- with them there are more parts than the budget
-  abbrev pub RuleOverruns : ℕ → Listing → Type 0
+  abbrev pub RuleOverruns : ℕ → CompositionListing → Type 0
   RuleOverruns n old = (order : List (ℕ × ℕ)) (es : List (TransducerRule (ℕ × ℕ))) → IsListing order key es old → old.budget < total edge_parts (es ++ rule_edges n)
 
   -- all edges of the pair are listed, over each order in which the pair has this position
-  abbrev pub ListsKey : ℕ → Listing → Type 0
+  abbrev pub ListsKey : ℕ → CompositionListing → Type 0
   ListsKey position l = (order : List (ℕ × ℕ)) → position < length order → get_or order position (0, 0) ≡ key → IsListing order key (edges_of product one two key) l
 
   -- the edges of the pair have more parts than the budget

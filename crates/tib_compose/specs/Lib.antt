@@ -9,7 +9,7 @@ pub mod Pending
 pub mod Branches
 pub mod Bounds
 pub mod Sources
-pub mod Listing
+pub mod CompositionListing
 pub mod Searches
 pub mod Walk
 pub mod KeyEdges

@@ -15,10 +15,10 @@ use Rattle.tib_transducer.specs.Rules.{states_in}
 use Rattle.tib_transducer.specs.declared.Pair.{Pair}
 use Rattle.tib_transducer.specs.declared.Variable.{Variable}
 use Rattle.tib_transducer.specs.declared.TransducerRule.{TransducerRule}
-use Rattle.tib_keyed.specs.Composition.{ends_of, edge_parts}
-use Rattle.tib_keyed.specs.Named.{named_transducer_rule}
+use Rattle.tib_key_edges.specs.Composition.{ends_of, edge_parts}
+use Rattle.tib_key_edges.specs.Named.{named_transducer_rule}
 use Rattle.tib_compose.specs.EdgeLaws.{places_of, rule_of}
-use Rattle.tib_compose.specs.declared.listing.Listing.{Listing}
+use Rattle.tib_compose.specs.declared.listing.CompositionListing.{CompositionListing}
 use Rattle.tib_compose.specs.declared.placed_rule.PlacedRule.{PlacedRule}
 
 -- the items with the ends n, n + 1 and so on in place of the keys of their pairs
@@ -43,7 +43,7 @@ abbrev pub edge_of : ℕ × ℕ → SideFor ℕ Variable → List (Symbol ℕ (P
 edge_of key left pairs cost = record { state = key; left = left; right = first_of (label 0) (parse pairs); cost = cost }
 
 -- the rule leads from the position, and its pairs lead to new ends
-pub record IsPlacedRule (left : SideFor ℕ Variable) (done : List (Item (Pair (ℕ × ℕ)))) (cost : ℕ) (old new : Listing) (r : PlacedRule) : Type 0 where
+pub record IsPlacedRule (left : SideFor ℕ Variable) (done : List (Item (Pair (ℕ × ℕ)))) (cost : ℕ) (old new : CompositionListing) (r : PlacedRule) : Type 0 where
   pub state : r.position ≡ old.position
   pub same : r.left.now ≡ left
   pub right : preorder_of r.right ≡ pairs_of (placed (length old.ends.items) done)
@@ -55,7 +55,7 @@ pub record IsPlacedRule (left : SideFor ℕ Variable) (done : List (Item (Pair (
   pub budget : new.budget ≡ old.budget
 
 -- the list with such a rule appended
-pub record IsAdded (left : SideFor ℕ Variable) (done : List (Item (Pair (ℕ × ℕ)))) (cost : ℕ) (old new : Listing) : Type 0 where
+pub record IsAdded (left : SideFor ℕ Variable) (done : List (Item (Pair (ℕ × ℕ)))) (cost : ℕ) (old new : CompositionListing) : Type 0 where
   pub rule : PlacedRule
   pub state : rule.position ≡ old.position
   pub same : rule.left.now ≡ left
@@ -68,19 +68,19 @@ pub record IsAdded (left : SideFor ℕ Variable) (done : List (Item (Pair (ℕ �
   pub budget : new.budget ≡ old.budget
 
 -- such a rule has more parts than the budget leaves
-pub record IsTooMuch (left : SideFor ℕ Variable) (done : List (Item (Pair (ℕ × ℕ)))) (old : Listing) : Type 0 where
+pub record IsTooMuch (left : SideFor ℕ Variable) (done : List (Item (Pair (ℕ × ℕ)))) (old : CompositionListing) : Type 0 where
   pub side : SideFor ℕ (Pair Place)
   pub right : preorder_of side ≡ pairs_of (placed (length old.ends.items) done)
   pub more : old.budget < old.parts + (1 + (size left + size side))
 
 -- the list and its size stay within the budget
-pub record IsWithinBudget (l : Listing) : Type 0 where
+pub record IsWithinBudget (l : CompositionListing) : Type 0 where
   pub few : length l.ends.items ≤ l.parts
   pub within : l.parts ≤ l.budget
   pub budget : l.budget ≤ most_parts
 
 -- over an order, these edges of a key are listed
-pub record IsListing (order : List (ℕ × ℕ)) (key : ℕ × ℕ) (es : List (TransducerRule (ℕ × ℕ))) (l : Listing) : Type 0 where
+pub record IsListing (order : List (ℕ × ℕ)) (key : ℕ × ℕ) (es : List (TransducerRule (ℕ × ℕ))) (l : CompositionListing) : Type 0 where
   pub below : l.position < length order
   pub at : get_or order l.position (0, 0) ≡ key
   pub within : Each (λ r. Each (IsWithin (length order) (length l.ends.items)) (places_of (rule_of r))) l.rules.items

@@ -7,14 +7,14 @@ use Rattle.tib_grammar.specs.Sides.{Symbol}
 use Rattle.tib_cost.specs.Semiring.{most}
 use Rattle.tib_transducer.specs.declared.Pair.{Pair}
 use Rattle.tib_transducer.specs.declared.TransducerRule.{TransducerRule}
-use Rattle.tib_keyed.specs.Translations.{choice_cost}
-use Rattle.tib_keyed.specs.Choices.{choices_of}
-use Rattle.tib_keyed.specs.Completions.{completions}
-use Rattle.tib_keyed.specs.Pieces.{Piece as PieceOf, put, read, sides_of, states_of}
+use Rattle.tib_key_edges.specs.Translations.{choice_cost}
+use Rattle.tib_key_edges.specs.Choices.{choices_of}
+use Rattle.tib_key_edges.specs.Completions.{completions}
+use Rattle.tib_key_edges.specs.Pieces.{Piece as PieceOf, put, read, sides_of, states_of}
 use Rattle.tib_compose.specs.PieceViews.{piece_of}
 use Rattle.tib_compose.specs.declared.pending.Piece.{Piece}
 use Rattle.tib_compose.specs.declared.pending.Piece.TheVariants.{Put, Read}
-use Rattle.tib_compose.specs.declared.pending.Task.{Task}
+use Rattle.tib_compose.specs.declared.pending.PendingPiece.{PendingPiece}
 use Rattle.tib_compose.specs.declared.pending.Pending.{Pending}
 
 -- the number is at least the bound, and above the greatest cost where this is none
@@ -23,7 +23,7 @@ IsAtLeast None n = most < n
 IsAtLeast (Some m) n = m ≤ n
 
 -- the task at a place
-abbrev pub task_at : List Task → ℕ → Task
+abbrev pub task_at : List PendingPiece → ℕ → PendingPiece
 task_at tasks i = get_or tasks i (record { piece = Put 0 0; rest = 0; bound = None })
 
 module _ (product : ℕ → ℕ → ℕ) (two : List (TransducerRule ℕ)) where
@@ -38,7 +38,7 @@ module _ (product : ℕ → ℕ → ℕ) (two : List (TransducerRule ℕ)) where
 
   module _ (pairs : List (Symbol ℕ (Pair ℕ) × ℕ)) where
     -- the pieces from the task of a number on, each with a bound of what is left from there
-    abbrev pub Stands : List Task → ℕ → List PieceOf → Type 0
+    abbrev pub Stands : List PendingPiece → ℕ → List PieceOf → Type 0
     Stands tasks n [] = n ≡ 0
     Stands tasks n (w ∷ ws) =
         (0 < n)

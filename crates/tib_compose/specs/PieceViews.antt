@@ -6,7 +6,7 @@ use Rattle.tib_grammar.specs.Sides.{Symbol, label, Side as SideFor}
 use Rattle.tib_grammar.specs.declared.Item.{Item}
 use Rattle.tib_grammar.specs.declared.Item.TheVariants.{Label, Hole}
 use Rattle.tib_transducer.specs.declared.Pair.{Pair}
-use Rattle.tib_keyed.specs.Pieces.{Piece as PieceOf, put, read}
+use Rattle.tib_key_edges.specs.Pieces.{Piece as PieceOf, put, read}
 use Rattle.tib_compose.specs.declared.pending.Piece.{Piece}
 use Rattle.tib_compose.specs.declared.pending.Piece.TheVariants.{Put, Read}
 

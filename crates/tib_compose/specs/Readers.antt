@@ -2,11 +2,11 @@
 use Rattle.std.specs.Prelude.{◌≡◌, ℕ, ◌<◌, List, [], ◌∷◌, ◌++◌, length, if◌then◌else◌}
 use Rattle.std.proofs.Common.{zero, suc}
 use Rattle.tib_grammar.specs.Sides.{label, AreHoles}
-use Rattle.tib_keyed.specs.Positions.{positions_of}
-use Rattle.tib_keyed.specs.declared.buckets.ShapeIndex.{ShapeIndex}
+use Rattle.tib_key_edges.specs.Positions.{positions_of}
+use Rattle.tib_key_edges.specs.declared.buckets.ShapeIndex.{ShapeIndex}
 use Rattle.tib_transducer.specs.Rules.{transducer_rule}
 use Rattle.tib_transducer.specs.declared.TransducerRule.{TransducerRule}
-use Rattle.tib_keyed.specs.Choices.{reads_label}
+use Rattle.tib_key_edges.specs.Choices.{reads_label}
 
 -- the positions, of the first m, of the rules that lead from the state p and read the label f over
 -- n variables

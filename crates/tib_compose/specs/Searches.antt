@@ -10,15 +10,15 @@ use Rattle.tib_transducer.specs.declared.Pair.{Pair}
 use Rattle.tib_transducer.specs.declared.Variable.{Variable}
 use Rattle.tib_transducer.specs.declared.TransducerRule.{TransducerRule}
 use Rattle.tib_grammar.specs.Sides.{Side as SideFor}
-use Rattle.tib_keyed.specs.Pieces.{Piece as PieceOf, read, Result, pieces_of, results}
-use Rattle.tib_compose.specs.Listing.{edge_of, IsListing}
+use Rattle.tib_key_edges.specs.Pieces.{Piece as PieceOf, read, Result, pieces_of, results}
+use Rattle.tib_compose.specs.CompositionListing.{edge_of, IsListing}
 use Rattle.tib_compose.specs.Pending.{Stands, Holds}
 use Rattle.tib_compose.specs.PieceViews.{kids_there, side_there}
 use Rattle.tib_compose.specs.Readers.{readers_with}
 use Rattle.tib_compose.specs.declared.branch.Reading.{Reading}
-use Rattle.tib_compose.specs.declared.listing.Listing.{Listing}
-use Rattle.tib_compose.specs.declared.pending.Task.{Task}
-use Rattle.tib_compose.specs.declared.search.Turn.{Turn}
+use Rattle.tib_compose.specs.declared.listing.CompositionListing.{CompositionListing}
+use Rattle.tib_compose.specs.declared.pending.PendingPiece.{PendingPiece}
+use Rattle.tib_compose.specs.declared.search.ReturnPoint.{ReturnPoint}
 use Rattle.tib_compose.specs.declared.search.Search.{Search}
 
 -- the results of a cost at most the greatest
@@ -44,11 +44,11 @@ module _ (product : ℕ → ℕ → ℕ) (two : List (TransducerRule ℕ)) where
 
     -- what comes of the rules at a turn that are not tried, after what was put out and before other
     -- pieces
-    abbrev pub turn_results : Turn → List (Symbol ℕ (Pair (ℕ × ℕ)) × ℕ) → List PieceOf → List Result
+    abbrev pub turn_results : ReturnPoint → List (Symbol ℕ (Pair (ℕ × ℕ)) × ℕ) → List PieceOf → List Result
     turn_results t done ws = all_of (reader_results t.cost done (kids_there pairs t.reading.node t.reading.rank) ws) (drop t.tried (readers_of t.reading))
 
     -- what comes of some turns, the first before the others
-    abbrev pub AreTurns : List Turn → List (Item (Pair (ℕ × ℕ))) → List Task → List Result → Type 0
+    abbrev pub AreTurns : List ReturnPoint → List (Item (Pair (ℕ × ℕ))) → List PendingPiece → List Result → Type 0
     AreTurns [] done tasks rs = rs ≡ []
     AreTurns (t ∷ ts) done tasks rs =
         (ws : List PieceOf)
@@ -71,7 +71,7 @@ pub record Begins (product : ℕ → ℕ → ℕ) (cost state : ℕ) (search : S
   pub left : (two : List (TransducerRule ℕ)) (pairs : List (Symbol ℕ (Pair ℕ) × ℕ)) → Holds product two pairs search.branch.pending (read (side_there pairs 0) state ∷ [])
 
 -- the turn that a branch makes at a label
-abbrev pub turn_at : Reading → Search → Turn
+abbrev pub turn_at : Reading → Search → ReturnPoint
 turn_at r search = record {
   reading = r;
   cost = search.branch.cost;
@@ -87,17 +87,17 @@ pub record Meets (r : Reading) (old new : Search) : Type 0 where
   pub turns : new.turns.items ≡ old.turns.items ++ turn_at r old ∷ []
 
 -- the branch is that of the turn
-pub record ComesBack (t : Turn) (old new : Search) : Type 0 where
+pub record ComesBack (t : ReturnPoint) (old new : Search) : Type 0 where
   pub turns : new.turns ≡ old.turns
   pub done : new.branch.done.items ≡ take t.done old.branch.done.items
   pub tasks : new.branch.pending.tasks.items ≡ take t.tasks old.branch.pending.tasks.items
   pub next : new.branch.pending.next ≡ t.next
 
 -- the turn with one more rule that was tried
-abbrev pub tried_more : Turn → Turn
+abbrev pub tried_more : ReturnPoint → ReturnPoint
 tried_more t = record { reading = t.reading; cost = t.cost; done = t.done; tasks = t.tasks; next = t.next; tried = t.tried + 1 }
 
 -- it is the last turn
-pub record IsAgain (t : Turn) (old new : Search) : Type 0 where
+pub record IsAgain (t : ReturnPoint) (old new : Search) : Type 0 where
   pub branch : new.branch ≡ old.branch
   pub turns : new.turns.items ≡ old.turns.items ++ tried_more t ∷ []

@@ -5,7 +5,7 @@ use Rattle.tib_grammar.specs.Items.{pairs_of}
 use Rattle.tib_grammar.specs.declared.Item.{Item}
 use Rattle.tib_transducer.specs.declared.Pair.{Pair}
 use Rattle.tib_transducer.specs.declared.TransducerRule.{TransducerRule}
-use Rattle.tib_keyed.specs.Pieces.{Piece as PieceOf, pieces_of}
+use Rattle.tib_key_edges.specs.Pieces.{Piece as PieceOf, pieces_of}
 use Rattle.tib_compose.specs.Bounds.{AreBounds}
 use Rattle.tib_compose.specs.Ends.{AreEnds}
 use Rattle.tib_compose.specs.Pending.{Extends, Holds}

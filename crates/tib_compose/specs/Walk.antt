@@ -7,17 +7,17 @@ use Rattle.tib_transducer.specs.Rules.{transducer_rule}
 use Rattle.tib_transducer.specs.Range.{AreShaped}
 use Rattle.tib_transducer.specs.declared.Variable.{Variable}
 use Rattle.tib_transducer.specs.declared.TransducerRule.{TransducerRule}
-use Rattle.tib_keyed.specs.Choices.{reads_label}
-use Rattle.tib_keyed.specs.Composition.{edge_parts}
-use Rattle.tib_keyed.specs.Pieces.{Piece as PieceOf, Result, results, GoesByPieces}
-use Rattle.tib_compose.specs.Listing.{edge_of, IsListing}
+use Rattle.tib_key_edges.specs.Choices.{reads_label}
+use Rattle.tib_key_edges.specs.Composition.{edge_parts}
+use Rattle.tib_key_edges.specs.Pieces.{Piece as PieceOf, Result, results, GoesByPieces}
+use Rattle.tib_compose.specs.CompositionListing.{edge_of, IsListing}
 use Rattle.tib_compose.specs.Pending.{Extends, Holds}
 use Rattle.tib_compose.specs.PieceViews.{kids_there}
 use Rattle.tib_compose.specs.Searches.{affordable, reader_results, Remains}
 use Rattle.tib_compose.specs.Sources.{IsSource}
 use Rattle.tib_compose.specs.declared.branch.Branch.{Branch}
-use Rattle.tib_compose.specs.declared.listing.Listing.{Listing}
-use Rattle.tib_compose.specs.declared.search.Turn.{Turn}
+use Rattle.tib_compose.specs.declared.listing.CompositionListing.{CompositionListing}
+use Rattle.tib_compose.specs.declared.search.ReturnPoint.{ReturnPoint}
 use Rattle.tib_compose.specs.declared.search.Search.{Search}
 use Rattle.tib_compose.specs.declared.source.Source.{Source}
 
@@ -34,7 +34,7 @@ result_edges key left (r ∷ rs) = edge_of key left r.1 r.0 ∷ result_edges key
 
 module _ (product : ℕ → ℕ → ℕ) (two : List (TransducerRule ℕ)) (source : Source) where
   -- a result can come of the branch, or none does
-  abbrev pub ReadComes : Turn → ℕ → Branch → Branch → List PieceOf → Bool → Type 0
+  abbrev pub ReadComes : ReturnPoint → ℕ → Branch → Branch → List PieceOf → Bool → Type 0
   ReadComes t m old new ws true =
       (rest : List PieceOf)
       × Holds product two (pairs_of source.items.now) new.pending rest
@@ -44,7 +44,7 @@ module _ (product : ℕ → ℕ → ℕ) (two : List (TransducerRule ℕ)) (sour
       reader_results product two t.cost (pairs_of old.done.items) (kids_there (pairs_of source.items.now) t.reading.node t.reading.rank) ws m ≡ []
 
   -- what comes of the branch comes of the rule that reads the label of the turn
-  pub record IsRead (t : Turn) (m : ℕ) (old new : Branch) (alive : Bool) : Type 0 where
+  pub record IsRead (t : ReturnPoint) (m : ℕ) (old new : Branch) (alive : Bool) : Type 0 where
     pub done : new.done ≡ old.done
     pub tasks : Extends old.pending.tasks.items new.pending.tasks.items
     pub comes :
@@ -53,7 +53,7 @@ module _ (product : ℕ → ℕ → ℕ) (two : List (TransducerRule ℕ)) (sour
 
   module _ (left : SideFor ℕ Variable) (order : List (ℕ × ℕ)) (key : ℕ × ℕ) (all : List (TransducerRule (ℕ × ℕ))) where
     -- the edges that are listed, and those of what is left to come, are all
-    pub record IsUnderway (search : Search) (listing : Listing) : Type 0 where
+    pub record IsUnderway (search : Search) (listing : CompositionListing) : Type 0 where
       pub listed : List (TransducerRule (ℕ × ℕ))
       pub left_over : List Result
       pub lists : IsListing order key listed listing
@@ -61,7 +61,7 @@ module _ (product : ℕ → ℕ → ℕ) (two : List (TransducerRule ℕ)) (sour
       pub whole : listed ++ result_edges key left left_over ≡ all
 
     -- the same where what comes of the branch is left as well
-    pub record IsOnBranch (search : Search) (listing : Listing) : Type 0 where
+    pub record IsOnBranch (search : Search) (listing : CompositionListing) : Type 0 where
       pub listed : List (TransducerRule (ℕ × ℕ))
       pub pieces : List PieceOf
       pub left_over : List Result
@@ -72,30 +72,30 @@ module _ (product : ℕ → ℕ → ℕ) (two : List (TransducerRule ℕ)) (sour
 
 module _ (source : Source) (left : SideFor ℕ Variable) where
   -- what comes of the branch is listed, or is left to come
-  abbrev pub GoesOn : Search → Search → Listing → Listing → Type 0
+  abbrev pub GoesOn : Search → Search → CompositionListing → CompositionListing → Type 0
   GoesOn old new before after =
       (product : ℕ → ℕ → ℕ) (two : List (TransducerRule ℕ)) → AreReady product two → IsSource product two source → (order : List (ℕ × ℕ)) (key : ℕ × ℕ) (all : List (TransducerRule (ℕ × ℕ))) →
       IsOnBranch product two source left order key all old before → IsUnderway product two source left order key all new after
 
   -- all edges have more parts than the budget
-  abbrev pub GoesTooFar : Search → Listing → Type 0
+  abbrev pub GoesTooFar : Search → CompositionListing → Type 0
   GoesTooFar old before =
       (product : ℕ → ℕ → ℕ) (two : List (TransducerRule ℕ)) → AreReady product two → IsSource product two source → (order : List (ℕ × ℕ)) (key : ℕ × ℕ) (all : List (TransducerRule (ℕ × ℕ))) →
       IsOnBranch product two source left order key all old before → before.budget < total edge_parts all
 
 module _ (product : ℕ → ℕ → ℕ) (two : List (TransducerRule ℕ)) (source : Source) (left : SideFor ℕ Variable) where
   -- the walk is underway still, or all edges are listed
-  abbrev pub StepComes : List (ℕ × ℕ) → ℕ × ℕ → List (TransducerRule (ℕ × ℕ)) → Search → Listing → Bool → Type 0
+  abbrev pub StepComes : List (ℕ × ℕ) → ℕ × ℕ → List (TransducerRule (ℕ × ℕ)) → Search → CompositionListing → Bool → Type 0
   StepComes order key all new after true = IsUnderway product two source left order key all new after
   StepComes order key all new after false = IsListing order key all after
 
-  abbrev pub Steps : Search → Search → Listing → Listing → Bool → Type 0
+  abbrev pub Steps : Search → Search → CompositionListing → CompositionListing → Bool → Type 0
   Steps old new before after more =
       AreReady product two → IsSource product two source → (order : List (ℕ × ℕ)) (key : ℕ × ℕ) (all : List (TransducerRule (ℕ × ℕ))) →
       IsUnderway product two source left order key all old before → StepComes order key all new after more
 
   -- all edges have more parts than the budget
-  abbrev pub StepsTooFar : Search → Listing → Type 0
+  abbrev pub StepsTooFar : Search → CompositionListing → Type 0
   StepsTooFar old before =
       AreReady product two → IsSource product two source → (order : List (ℕ × ℕ)) (key : ℕ × ℕ) (all : List (TransducerRule (ℕ × ℕ))) →
       IsUnderway product two source left order key all old before → before.budget < total edge_parts all

@@ -7,7 +7,7 @@ use crate::pending::{Pending, Piece};
 use std::alloc::AllocError;
 use tib_cost::Cost;
 use tib_grammar::Item;
-use tib_keyed::StatePair;
+use tib_key_edges::StatePair;
 use tib_transducer::Pair;
 use tib_tree::Label;
 

@@ -9,7 +9,7 @@ ghost use Rattle.tib_transducer.specs.Moves.{IsStateIndex};
 
 use crate::index::index_rules;
 use std::alloc::Global;
-use tib_keyed::ShapeIndex;
+use tib_key_edges::ShapeIndex;
 use tib_transducer::{ClassError, StateIndex, Transducer, first_outside};
 
 /// The pairs of a state of the first transducer and a state of the second, reached from the pair of

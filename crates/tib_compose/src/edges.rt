@@ -4,20 +4,20 @@
 ghost use Rattle.std.specs.Prelude.{◌≡◌, ◌<◌, ◌≤◌, length, IfOk, OnOk, Err};
 ghost use Rattle.tib_expand.specs.Reached.{most_parts};
 ghost use Rattle.tib_compose.specs.KeyEdges.{IsSourceOf, KeyOverruns, ListsKey, ListsRule, RuleOverruns};
-ghost use Rattle.tib_compose.specs.Listing.{IsWithinBudget};
+ghost use Rattle.tib_compose.specs.CompositionListing.{IsWithinBudget};
 
 use crate::bounds::Bounds;
 use crate::composite::Composite;
 use crate::ends::ends_of;
 use crate::flat::flat_root;
-use crate::listing::Listing;
+use crate::listing::CompositionListing;
 use crate::search::Search;
 use crate::source::Source;
 use crate::translating::go_on;
 use std::alloc::{AllocError, Global};
 use tib_cost::Semiring;
 use tib_expand::ExpandError;
-use tib_keyed::StatePair;
+use tib_key_edges::StatePair;
 use tib_transducer::TransducerRule;
 
 impl<'a, S: Semiring> Composite<'a, S> {
@@ -55,7 +55,7 @@ impl<'a, S: Semiring> Composite<'a, S> {
         alloc: Global,
         key: StatePair,
         position: u32,
-        listing: &mut Listing<'a>,
+        listing: &mut CompositionListing<'a>,
     ) -> Result<(), ExpandError>
         requires below { position < length self.now.first.now.rules }
         requires within { IsWithinBudget listing.old }
@@ -95,7 +95,7 @@ impl<'a, S: Semiring> Composite<'a, S> {
         alloc: Global,
         key: StatePair,
         position: u32,
-        listing: &mut Listing<'a>,
+        listing: &mut CompositionListing<'a>,
     ) -> Result<(), ExpandError>
         requires below { position < length self.now.first.now.rules }
         requires within { IsWithinBudget listing.old }
@@ -121,7 +121,7 @@ impl<'a, S: Semiring> Composite<'a, S> {
         key: StatePair,
         position: u32,
         budget: u64,
-    ) -> Result<Listing<'a>, ExpandError>
+    ) -> Result<CompositionListing<'a>, ExpandError>
         requires budget { budget ≤ most_parts }
         ensures listed { IfOk result (ListsKey S.product self.now.first.now.rules
             self.now.second.now.rules key position) }
@@ -130,7 +130,7 @@ impl<'a, S: Semiring> Composite<'a, S> {
         ensures within { IfOk result IsWithinBudget }
         ensures budget { IfOk result (λ l. l.budget ≡ budget) }
     {
-        let mut listing = Listing::new(alloc, position, budget);
+        let mut listing = CompositionListing::new(alloc, position, budget);
         for rule_position in self.moves.of(key.first()) {
             match self.list_rule(alloc, key, *rule_position, &mut listing) {
                 Ok(()) => {}

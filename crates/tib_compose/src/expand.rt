@@ -8,12 +8,12 @@ use crate::settling::settled_rule;
 use std::alloc::{AllocError, Global};
 use tib_cost::Semiring;
 use tib_expand::{Edges, Expand, ExpandError};
-use tib_keyed::StatePair;
+use tib_key_edges::StatePair;
 use tib_transducer::TransducerRule;
 
 impl<'a, S: Semiring> Expand for Composite<'a, S> {
     ghost use Rattle.std.specs.Prelude.{◌<◌, length};
-    ghost use Rattle.tib_keyed.specs.Composition.{composition};
+    ghost use Rattle.tib_key_edges.specs.Composition.{composition};
     ghost use Rattle.tib_compose.specs.EdgeLaws.{compose_reading, composition_is_lawful};
 
     type Key = StatePair;

@@ -16,15 +16,15 @@ ghost use Rattle.tib_compose.specs.FlatSides.{
   ReaderOverruns,
 };
 ghost use Rattle.tib_compose.specs.KeyEdges.{ListsRule, RuleOverruns};
-ghost use Rattle.tib_compose.specs.Listing.{IsWithinBudget};
+ghost use Rattle.tib_compose.specs.CompositionListing.{IsWithinBudget};
 
 use crate::composite::Composite;
-use crate::listing::Listing;
+use crate::listing::CompositionListing;
 use std::alloc::{AllocError, Global};
 use tib_cost::{Cost, Semiring};
 use tib_grammar::{Item, Side};
 use tib_expand::ExpandError;
-use tib_keyed::StatePair;
+use tib_key_edges::StatePair;
 use tib_transducer::{Pair, TransducerRule, Variable};
 use tib_tree::Label;
 
@@ -111,7 +111,7 @@ fn list_kept<'a>(
     left: &'a Side<Variable>,
     done: &[Item<Pair<StatePair>>],
     cost: Option<Cost>,
-    listing: &mut Listing<'a>,
+    listing: &mut CompositionListing<'a>,
 ) -> Result<(), ExpandError>
     requires within { IsWithinBudget listing.old }
     ensures listed { OnOk result (ListsKept left.now done.now cost listing.old listing.new) }
@@ -138,7 +138,7 @@ impl<'a, S: Semiring> Composite<'a, S> {
         items: &[Item<Pair<u32>>],
         position: u32,
         done: &mut Vec<Item<Pair<StatePair>>>,
-        listing: &mut Listing<'a>,
+        listing: &mut CompositionListing<'a>,
     ) -> Result<(), ExpandError>
         requires within { IsWithinBudget listing.old }
         ensures listed { OnOk result (ListsReader S.product self.now.second.now.rules rule.now
@@ -173,7 +173,7 @@ impl<'a, S: Semiring> Composite<'a, S> {
         position: u32,
         label: Label,
         rank: u32,
-        listing: &mut Listing<'a>,
+        listing: &mut CompositionListing<'a>,
     ) -> Result<(), ExpandError>
         requires below { position < length self.now.first.now.rules }
         requires flat { IsFlatOver (preorder_of (transducer_rule self.now.first.now.rules

@@ -2,13 +2,13 @@
 
 ghost use Rattle.std.specs.Prelude.{◌≡◌, ℕ, ◌<◌, ◌^◌, IfOk, length};
 ghost use Rattle.tib_grammar.specs.ShapeBuckets.{same_shape};
-ghost use Rattle.tib_keyed.specs.Choices.{reads_label};
+ghost use Rattle.tib_key_edges.specs.Choices.{reads_label};
 ghost use Rattle.tib_compose.specs.IsIndex.{IsIndex};
 ghost use Rattle.tib_compose.specs.Readers.{AreFlat, IsFlat};
 
 use std::alloc::{AllocError, Global};
 use tib_grammar::Item;
-use tib_keyed::{Shape, ShapeIndex};
+use tib_key_edges::{Shape, ShapeIndex};
 use tib_transducer::TransducerRule;
 
 /// The shape of a rule: its state, and the label and the rank that it reads.

@@ -1,6 +1,6 @@
 //! The composition of two transducers: the pairs of their states that are reached, with the rules
 //! of the composite transducer; `compose` finds them by one worker, and `compose_together` by
-//! several. It builds on `tib_keyed`, `tib_transducer` and `tib_hunt`.
+//! several. It builds on `tib_key_edges`, `tib_transducer` and `tib_hunt`.
 #![tactic(auto)]
 
 mod bounding;

@@ -4,14 +4,14 @@ ghost use Rattle.std.specs.Prelude.{◌≡◌, ℕ, ◌+◌, ◌<◌, ◌≤◌,
 ghost use Rattle.tib_grammar.specs.Items.{pairs_of};
 ghost use Rattle.tib_tree.specs.Trees.{preorder_of};
 ghost use Rattle.tib_expand.specs.Reached.{most_parts};
-ghost use Rattle.tib_compose.specs.Listing.{IsAdded, IsPlacedRule, IsTooMuch, IsWithinBudget, keys_in, placed};
+ghost use Rattle.tib_compose.specs.CompositionListing.{IsAdded, IsPlacedRule, IsTooMuch, IsWithinBudget, keys_in, placed};
 
 use crate::placed_rule::PlacedRule;
 use std::alloc::{AllocError, Global};
 use tib_cost::Cost;
 use tib_grammar::{Item, Side};
 use tib_expand::{Edges, ExpandError, Place};
-use tib_keyed::StatePair;
+use tib_key_edges::StatePair;
 use tib_transducer::{Pair, Variable};
 
 /// The side of some items. Err also where they are no side, or too many to be counted.
@@ -60,7 +60,7 @@ fn place_items(
 
 /// The edges of the pair at a position, as far as they are listed, within a budget of parts.
 #[derive(Drop)]
-pub struct Listing<'a> {
+pub struct CompositionListing<'a> {
     /// The ends, one after another.
     pub ends: Vec<StatePair>,
     /// The rules over places.
@@ -73,16 +73,16 @@ pub struct Listing<'a> {
     pub budget: u64,
 }
 
-impl<'a> Listing<'a> {
+impl<'a> CompositionListing<'a> {
     /// The empty list of edges of the pair at a position.
-    pub fn new(alloc: Global, position: u32, budget: u64) -> Listing<'a>
+    pub fn new(alloc: Global, position: u32, budget: u64) -> CompositionListing<'a>
         ensures position { result.position ≡ position }
         ensures budget { result.budget ≡ budget }
         ensures ends { result.ends.items ≡ [] }
         ensures rules { result.rules.items ≡ [] }
         ensures parts { result.parts ≡ 0 }
     {
-        Listing {
+        CompositionListing {
             ends: Vec::new(alloc),
             rules: Vec::new(alloc),
             parts: 0,
@@ -152,7 +152,7 @@ impl<'a> Listing<'a> {
         ensures rules { result.rules.items ≡ self.entry.rules.items }
         ensures parts { result.parts ≡ self.entry.parts }
     {
-        let Listing {
+        let CompositionListing {
             ends,
             rules,
             parts,

@@ -5,7 +5,7 @@ ghost use Rattle.tib_grammar.specs.Sides.{Symbol};
 ghost use Rattle.tib_cost.specs.Least.{times};
 ghost use Rattle.tib_transducer.specs.declared.Pair.{Pair as PairOf};
 ghost use Rattle.tib_transducer.specs.declared.TransducerRule.{TransducerRule as RuleOf};
-ghost use Rattle.tib_keyed.specs.Pieces.{Piece as PieceOf};
+ghost use Rattle.tib_key_edges.specs.Pieces.{Piece as PieceOf};
 ghost use Rattle.tib_compose.specs.Pending.{BoundsAll, Holds, IsPushed, TakesNext};
 
 use std::alloc::{AllocError, Global};
@@ -26,7 +26,7 @@ pub enum Piece {
 /// is left. What is left from the piece on costs at least the bound, and more than the greatest
 /// cost where this is none.
 #[derive(Drop)]
-pub struct Task {
+pub struct PendingPiece {
     /// The piece.
     pub piece: Piece,
     /// The number of the task after it.
@@ -53,7 +53,7 @@ pub(crate) fn product_of<S: Semiring>(one: Option<Cost>, two: Option<Cost>) -> O
 #[derive(Drop)]
 pub struct Pending {
     /// All tasks.
-    pub tasks: Vec<Task>,
+    pub tasks: Vec<PendingPiece>,
     /// The number of the next one.
     pub next: usize,
 }
@@ -109,7 +109,7 @@ impl Pending {
     {
         let all = product_of::<S>(bound, self.bound());
         let rest = self.next;
-        self.tasks.push(Task {
+        self.tasks.push(PendingPiece {
             piece,
             rest,
             bound: all,

@@ -12,7 +12,7 @@ use tib_cost::{Cost, Semiring};
 /// A label that is read, with the branch that came to it, and which of the rules that read it comes
 /// next.
 #[derive(Drop)]
-pub struct Turn {
+pub struct ReturnPoint {
     /// The label.
     pub reading: Reading,
     /// The cost so far.
@@ -33,7 +33,7 @@ pub struct Search {
     /// The branch.
     pub branch: Branch,
     /// The turns.
-    pub turns: Vec<Turn>,
+    pub turns: Vec<ReturnPoint>,
 }
 
 impl Search {
@@ -59,7 +59,7 @@ impl Search {
     pub fn meet(&mut self, reading: Reading) -> Result<(), AllocError>
         ensures meets { OnOk result (Meets reading self.old self.new) }
     {
-        let turn = Turn {
+        let turn = ReturnPoint {
             reading,
             cost: self.branch.cost,
             done: self.branch.done.len(),
@@ -72,7 +72,7 @@ impl Search {
     }
 
     /// Comes back to the branch at a turn; its cost stays.
-    pub fn back_to(&mut self, turn: &Turn)
+    pub fn back_to(&mut self, turn: &ReturnPoint)
         ensures { ComesBack turn.now self.old self.new }
     {
         self.branch.done.truncate(turn.done);
@@ -81,10 +81,10 @@ impl Search {
 
     /// Keeps a turn at which one more rule was tried. Err if memory is refused, or `tried` is the
     /// greatest number; then the turn is lost.
-    pub fn again(&mut self, turn: Turn) -> Result<(), AllocError>
+    pub fn again(&mut self, turn: ReturnPoint) -> Result<(), AllocError>
         ensures again { OnOk result (IsAgain turn self.old self.new) }
     {
-        let Turn {
+        let ReturnPoint {
             reading,
             cost,
             done,
@@ -95,7 +95,7 @@ impl Search {
         if tried == usize::MAX {
             return Err(AllocError);
         }
-        self.turns.push(Turn {
+        self.turns.push(ReturnPoint {
             reading,
             cost,
             done,

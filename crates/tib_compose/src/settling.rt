@@ -7,7 +7,7 @@ ghost use Rattle.tib_grammar.specs.Items.{pairs_of};
 ghost use Rattle.tib_grammar.specs.Sides.{side_map};
 ghost use Rattle.tib_expand.specs.EdgeLists.{IsWithin, position_of};
 ghost use Rattle.tib_transducer.specs.NamedPairs.{named_pair, named_item};
-ghost use Rattle.tib_keyed.specs.Named.{named_transducer_rule};
+ghost use Rattle.tib_key_edges.specs.Named.{named_transducer_rule};
 ghost use Rattle.tib_compose.specs.EdgeLaws.{all_states, places_of, rule_of};
 ghost use Rattle.tib_compose.specs.NamedItems.{IsItemWithin, HolesAreWithin};
 

@@ -1,15 +1,15 @@
 //! All translations of a right-hand side of the first transducer, one after another.
 
 ghost use Rattle.std.specs.Prelude.{◌≡◌, IfOk, OnOk, Err};
-ghost use Rattle.tib_compose.specs.Listing.{IsWithinBudget};
+ghost use Rattle.tib_compose.specs.CompositionListing.{IsWithinBudget};
 ghost use Rattle.tib_compose.specs.Walk.{GoesOn, GoesTooFar, IsRead, Steps, StepsTooFar};
 
 use crate::branch::Branch;
 use crate::composite::Composite;
-use crate::listing::Listing;
+use crate::listing::CompositionListing;
 use crate::pending::product_of;
 use crate::putting::push_pieces;
-use crate::search::{Search, Turn};
+use crate::search::{Search, ReturnPoint};
 use crate::source::Source;
 use std::alloc::{AllocError, Global};
 use tib_cost::Semiring;
@@ -25,7 +25,7 @@ pub(crate) fn go_on<'a>(
     source: &Source,
     left: &'a Side<Variable>,
     search: &mut Search,
-    listing: &mut Listing<'a>,
+    listing: &mut CompositionListing<'a>,
 ) -> Result<(), ExpandError>
     requires within { IsWithinBudget listing.old }
     ensures goes { OnOk result (GoesOn source.now left.now search.old search.new listing.old
@@ -58,7 +58,7 @@ impl<'a, S: Semiring> Composite<'a, S> {
         &self,
         source: &Source,
         branch: &mut Branch,
-        turn: &Turn,
+        turn: &ReturnPoint,
         position: u32,
     ) -> Result<bool, AllocError>
         ensures read { IfOk result (IsRead S.product self.now.second.now.rules source.now turn.now
@@ -87,7 +87,7 @@ impl<'a, S: Semiring> Composite<'a, S> {
         source: &Source,
         left: &'a Side<Variable>,
         search: &mut Search,
-        listing: &mut Listing<'a>,
+        listing: &mut CompositionListing<'a>,
     ) -> Result<bool, ExpandError>
         requires within { IsWithinBudget listing.old }
         ensures steps { IfOk result (Steps S.product self.now.second.now.rules source.now left.now

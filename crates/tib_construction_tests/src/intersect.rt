@@ -10,7 +10,7 @@ use tib_grammar::Rule;
 use tib_expand::{Edges, Expand, ExpandError, Found, HuntError, Open, TableKey};
 use tib_intersect::{PairRule, Pairs};
 use tib_reached::{intersect, intersect_together};
-use tib_keyed::StatePair;
+use tib_key_edges::StatePair;
 use tib_normal::Normal;
 use tib_tree::Label;
 

@@ -10,7 +10,7 @@ use tib_canon::{PrintedTransducer, to_transducer};
 use tib_cost::{MinPlus, Semiring};
 use tib_expand::Found;
 use tib_io::GrowingSink;
-use tib_keyed::StatePair;
+use tib_key_edges::StatePair;
 use tib_transducer::TransducerRule;
 use tib_transducer_file::{print_transducer, read_transducer};
 use tib_tree::Labels;

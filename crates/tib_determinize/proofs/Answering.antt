@@ -12,7 +12,7 @@ use Rattle.tib_lex.proofs.Alongs.{along_of, total_fewer}
 use Rattle.tib_lex.proofs.Numbers.{nat_eq_cases}
 use Rattle.tib_expand.specs.EdgeLists.{Lists, AreListed, Exceeds, IsEnd}
 use Rattle.tib_determinize.specs.declared.vector_rule.VectorRule.{VectorRule}
-use Rattle.tib_determinize.specs.declared.listing.Listing.{Listing}
+use Rattle.tib_determinize.specs.declared.listing.VectorListing.{VectorListing}
 use Rattle.tib_determinize.specs.Vectors.{VectorOf, Rises, IsWeight, IsStepCost, IsStep}
 use Rattle.tib_determinize.specs.Determinization.{IsSeed, IsVectorSeed, IsVectorEdge, ends_of, edge_parts}
 use Rattle.tib_determinize.specs.VectorRules.{places_of, read_places}
@@ -74,14 +74,14 @@ module _ (product : ℕ → ℕ → ℕ) {levelled weighted : Bool} (laws : Prod
 
     -- the edges of a position
     pub expand_listed :
-        (l : Listing) (ends : List VectorOf) (rs : List VectorRule) (parts : ℕ) → HasSteps product rules order (tries n (shapes_in rules)) l → IsWithinBudget l → ends ≡ l.ends.items → rs ≡ l.rules.items → parts ≡ l.parts →
+        (l : VectorListing) (ends : List VectorOf) (rs : List VectorRule) (parts : ℕ) → HasSteps product rules order (tries n (shapes_in rules)) l → IsWithinBudget l → ends ≡ l.ends.items → rs ≡ l.rules.items → parts ≡ l.parts →
         AreListed (IsVectorEdge product rules order n) edge_parts places_of read_places order ends rs parts
     expand_listed l ends rs parts h within e r p =
         is_listed (IsVectorEdge product rules order n) order ends rs parts l h.0 h.1 within e r p (in_order order (tries n (shapes_in rules)) h.0 tried_in_order h.2) (edges_listed h.0 h.2)
 
     -- their ends
     pub expand_ends :
-        (l : Listing) (ends : List VectorOf) → HasSteps product rules order (tries n (shapes_in rules)) l → ends ≡ l.ends.items → (k : VectorOf) → Has ends k ↔ IsEnd (IsVectorEdge product rules order n) ends_of k
+        (l : VectorListing) (ends : List VectorOf) → HasSteps product rules order (tries n (shapes_in rules)) l → ends ≡ l.ends.items → (k : VectorOf) → Has ends k ↔ IsEnd (IsVectorEdge product rules order n) ends_of k
     expand_ends l ends h e k = ends_are (IsVectorEdge product rules order n) one_edge order h.0 ends (e ∙ h.1.ends) (edges_listed h.0 h.2) k
 
     -- that they have more parts than the budget
@@ -135,14 +135,14 @@ module _ (product : ℕ → ℕ → ℕ) {levelled weighted : Bool} (laws : Prod
 
     -- the edges of the seeds
     pub seed_edges_listed :
-        (l : Listing) (ends : List VectorOf) (rs : List VectorRule) (parts : ℕ) → HasSteps product rules [] (leaf_tries (shapes_in rules)) l → IsWithinBudget l → ends ≡ l.ends.items → rs ≡ l.rules.items → parts ≡ l.parts →
+        (l : VectorListing) (ends : List VectorOf) (rs : List VectorRule) (parts : ℕ) → HasSteps product rules [] (leaf_tries (shapes_in rules)) l → IsWithinBudget l → ends ≡ l.ends.items → rs ≡ l.rules.items → parts ≡ l.parts →
         AreListed (IsVectorSeed product rules) edge_parts places_of read_places [] ends rs parts
     seed_edges_listed l ends rs parts h within e r p =
         is_listed (IsVectorSeed product rules) [] ends rs parts l h.0 h.1 within e r p
         (in_order [] (leaf_tries (shapes_in rules)) h.0 (λ o m. subst (λ (ps : List ℕ). Each (λ q. q < 0) ps) (sym (leaf_is (shapes_in rules) o m).0) tt) h.2) (seeds_listed h.0 h.2)
 
     -- their ends are the seeds
-    pub seed_ends : (l : Listing) (ends : List VectorOf) → HasSteps product rules [] (leaf_tries (shapes_in rules)) l → ends ≡ l.ends.items → (k : VectorOf) → Has ends k ↔ IsSeed product rules k
+    pub seed_ends : (l : VectorListing) (ends : List VectorOf) → HasSteps product rules [] (leaf_tries (shapes_in rules)) l → ends ≡ l.ends.items → (k : VectorOf) → Has ends k ↔ IsSeed product rules k
     seed_ends l ends h e k =
         let both = ends_are (IsVectorSeed product rules) one_seed [] h.0 ends (e ∙ h.1.ends) (seeds_listed h.0 h.2) k in (
           λ m. let x = both.0 m in elim x.3 [ inl s ↦ (x.0.0, x.1.cost, subst (λ w. IsStep product rules x.0.0 [] x.1.cost w) s x.2.step) | inr z ↦ absurd z ],

@@ -11,7 +11,7 @@ use Rattle.tib_grammar.specs.Positions.{states_in}
 use Rattle.tib_expand.specs.EdgeLists.{Lists, AreListed, IsEnd, IsWithin, key_at}
 use Rattle.tib_expand.specs.declared.place.Place.TheVariants.{Known, End}
 use Rattle.tib_determinize.specs.declared.vector_rule.VectorRule.{VectorRule}
-use Rattle.tib_determinize.specs.declared.listing.Listing.{Listing}
+use Rattle.tib_determinize.specs.declared.listing.VectorListing.{VectorListing}
 use Rattle.tib_determinize.specs.Vectors.{VectorOf, Rises, vector_at, vectors_at}
 use Rattle.tib_determinize.specs.Determinization.{ends_of, edge_parts}
 use Rattle.tib_determinize.specs.VectorRules.{PlacedRule, placed_rule, places_in, places_of, read_placed, read_places}
@@ -105,7 +105,7 @@ parts_are order (e ∷ es) =
 
 -- a list with these edges is listed
 pub is_listed :
-    (Edge : ℕ × List ℕ → Rule VectorOf → Type 0) (order ends : List VectorOf) (rules : List VectorRule) (parts : ℕ) (l : Listing) (es : List Stepped) → IsListing l es → IsWithinBudget l → ends ≡ l.ends.items → rules ≡ l.rules.items →
+    (Edge : ℕ × List ℕ → Rule VectorOf → Type 0) (order ends : List VectorOf) (rules : List VectorRule) (parts : ℕ) (l : VectorListing) (es : List Stepped) → IsListing l es → IsWithinBudget l → ends ≡ l.ends.items → rules ≡ l.rules.items →
     parts ≡ l.parts → Each (IsInOrder order) es → Lists Edge (map (edge_of order) es) → AreListed Edge edge_parts places_of read_places order ends rules parts
 is_listed Edge order ends rules parts l es is within ends_are rules_are parts_is in_order lists =
     let e : ends ≡ map (λ (x : Stepped). x.vector) es = ends_are ∙ is.ends in

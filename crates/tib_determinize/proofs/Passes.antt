@@ -10,7 +10,7 @@ use Rattle.tib_grammar.proofs.Sides.{length-holes}
 use Rattle.tib_normal.specs.Rules.{positions_with}
 use Rattle.tib_normal.proofs.RulePlaces.{has_rule_place}
 use Rattle.tib_determinize.specs.declared.alive.Alive.{Alive}
-use Rattle.tib_determinize.specs.declared.listing.Listing.{Listing}
+use Rattle.tib_determinize.specs.declared.listing.VectorListing.{VectorListing}
 use Rattle.tib_determinize.specs.Vectors.{VectorOf, IsWeight}
 use Rattle.tib_determinize.specs.Alive.{states_of, begun, IsAlive, AreAlive}
 use Rattle.tib_determinize.specs.Stepped.{IsListing, AreSteps, AddsSteps, HasSteps, StepsOverrun, StepsExceed}
@@ -94,10 +94,10 @@ leaves_done shapes i h = ap leaf_tries (drop_whole shapes i h)
 
 module _ (product : ℕ → ℕ → ℕ) (rules : List (Rule ℕ)) (order : List VectorOf) (all : List (ℕ × List ℕ)) where
   -- from an empty list on
-  pub has_steps : (old now : Listing) → IsListing old [] → AddsSteps product rules order all old now → HasSteps product rules order all now
+  pub has_steps : (old now : VectorListing) → IsListing old [] → AddsSteps product rules order all old now → HasSteps product rules order all now
   has_steps old now empty a =
       let r = a [] empty in
       (r.0, r.1, subst (AreSteps product rules order all) (append-nil r.0) (r.2 [] refl))
 
-  pub steps_exceed : (old : Listing) (budget : ℕ) → IsListing old [] → old.budget ≡ budget → StepsOverrun product rules order all old → StepsExceed product rules order all budget
+  pub steps_exceed : (old : VectorListing) (budget : ℕ) → IsListing old [] → old.budget ≡ budget → StepsOverrun product rules order all old → StepsExceed product rules order all budget
   steps_exceed old budget empty same o = let r = o [] empty in (r.0, r.1, (let m = r.2 in omega (arith, m, same)), r.3)

@@ -4,7 +4,7 @@ use Rattle.std.proofs.Common.{suc, arith, ap, sym, ◌∙◌, subst, inl, inr, a
 use Rattle.tib_lex.specs.Lists.{Has, total}
 use Rattle.tib_grammar.specs.declared.Rule.{Rule}
 use Rattle.tib_determinize.specs.VectorRules.{placed_rule}
-use Rattle.tib_determinize.specs.declared.listing.Listing.{Listing}
+use Rattle.tib_determinize.specs.declared.listing.VectorListing.{VectorListing}
 use Rattle.tib_determinize.specs.Vectors.{VectorOf, IsStep, vectors_at}
 use Rattle.tib_determinize.specs.Stepped.{Stepped, stepped_parts, rules_from, IsListing, IsAdded, HasNoStep, AreSteps, IsUnderway, AddsSteps, StepsOverrun}
 
@@ -27,7 +27,7 @@ rules_more i (x ∷ es) e =
 
 -- a list with one more edge
 pub listing_more :
-    (old new : Listing) (es : List Stepped) (f : ℕ) (ps : List ℕ) (c : ℕ) (v : VectorOf) → IsListing old es → IsAdded f ps c v old new →
+    (old new : VectorListing) (es : List Stepped) (f : ℕ) (ps : List ℕ) (c : ℕ) (v : VectorOf) → IsListing old es → IsAdded f ps c v old new →
     IsListing new (es ++ record { label = f; positions = ps; cost = c; vector = v } ∷ [])
 listing_more old new es f ps c v l a =
     let e : Stepped = record { label = f; positions = ps; cost = c; vector = v } in
@@ -48,7 +48,7 @@ listing_more old new es f ps c v l a =
     length-mapped xs = let z : length xs ≡ 0 + length xs = omega arith in long xs ∙ z
 
 -- an empty list has no edges
-pub listing_empty : (l : Listing) → length l.ends.items ≡ 0 → length l.rules.items ≡ 0 → l.parts ≡ 0 → IsListing l []
+pub listing_empty : (l : VectorListing) → length l.ends.items ≡ 0 → length l.rules.items ≡ 0 → l.parts ≡ 0 → IsListing l []
 listing_empty l e r p = record { ends = none l.ends.items e; rules = ap (map placed_rule) (none l.rules.items r); parts = p }
   where
     none : {A : Type 0} (xs : List A) → length xs ≡ 0 → xs ≡ []
@@ -85,14 +85,14 @@ module _ (product : ℕ → ℕ → ℕ) (rules : List (Rule ℕ)) (order : List
   abbrev Tries : Type 0
   Tries = List (ℕ × List ℕ)
 
-  module _ (all : Tries) (old : Listing) where
+  module _ (all : Tries) (old : VectorListing) where
     -- nothing was tried
     pub underway_begins : IsUnderway product rules order all all old old
     underway_begins es l = ([], subst (IsListing old) (sym (append-nil es)) l, λ rest a. a)
 
     -- what is tried next has no steps
     pub underway_skips :
-        (now : Listing) (front remaining : Tries) → AreSteps product rules order front [] → IsUnderway product rules order all (front ++ remaining) old now →
+        (now : VectorListing) (front remaining : Tries) → AreSteps product rules order front [] → IsUnderway product rules order all (front ++ remaining) old now →
         IsUnderway product rules order all remaining old now
     underway_skips now front remaining none u es l =
         let r = u es l in
@@ -100,7 +100,7 @@ module _ (product : ℕ → ℕ → ℕ) (rules : List (Rule ℕ)) (order : List
 
     -- what is tried next is under way itself
     pub underway_goes_on :
-        (mid now : Listing) (front left remaining : Tries) → IsUnderway product rules order all (front ++ remaining) old mid → IsUnderway product rules order front left mid now →
+        (mid now : VectorListing) (front left remaining : Tries) → IsUnderway product rules order all (front ++ remaining) old mid → IsUnderway product rules order front left mid now →
         IsUnderway product rules order all (left ++ remaining) old now
     underway_goes_on mid now front left remaining u n es l =
         let r = u es l in
@@ -123,13 +123,13 @@ module _ (product : ℕ → ℕ → ℕ) (rules : List (Rule ℕ)) (order : List
 
     -- what is tried next is done
     pub underway_next :
-        (mid now : Listing) (front remaining : Tries) → IsUnderway product rules order all (front ++ remaining) old mid → AddsSteps product rules order front mid now →
+        (mid now : VectorListing) (front remaining : Tries) → IsUnderway product rules order all (front ++ remaining) old mid → AddsSteps product rules order front mid now →
         IsUnderway product rules order all remaining old now
     underway_next mid now front remaining u n = underway_goes_on mid now front [] remaining u n
 
     -- what is tried next has too many parts
     pub overrun_next :
-        (mid : Listing) (front remaining : Tries) → old.budget ≡ mid.budget → IsUnderway product rules order all (front ++ remaining) old mid → StepsOverrun product rules order front mid →
+        (mid : VectorListing) (front remaining : Tries) → old.budget ≡ mid.budget → IsUnderway product rules order all (front ++ remaining) old mid → StepsOverrun product rules order front mid →
         StepsOverrun product rules order all old
     overrun_next mid front remaining same u n es l =
         let r = u es l in
@@ -152,12 +152,12 @@ module _ (product : ℕ → ℕ → ℕ) (rules : List (Rule ℕ)) (order : List
             (steps_append front remaining (more ++ p.0) p.1 (g p.0 p.3) p.4)))
 
   -- one that has no step
-  pub adds_none : (o : ℕ × List ℕ) (old : Listing) → HasNoStep product rules order o → AddsSteps product rules order (o ∷ []) old old
+  pub adds_none : (o : ℕ × List ℕ) (old : VectorListing) → HasNoStep product rules order o → AddsSteps product rules order (o ∷ []) old old
   adds_none o old none es l = ([], subst (IsListing old) (sym (append-nil es)) l, λ rest a. inl (none, a))
 
   -- one that has its step
   pub adds_one :
-      (f : ℕ) (ps : List ℕ) (c : ℕ) (v : VectorOf) (old new : Listing) → IsStep product rules f (vectors_at order ps) c v → IsAdded f ps c v old new →
+      (f : ℕ) (ps : List ℕ) (c : ℕ) (v : VectorOf) (old new : VectorListing) → IsStep product rules f (vectors_at order ps) c v → IsAdded f ps c v old new →
       AddsSteps product rules order ((f, ps) ∷ []) old new
   adds_one f ps c v old new is a es l = (
     record { label = f; positions = ps; cost = c; vector = v } ∷ [],
@@ -167,7 +167,7 @@ module _ (product : ℕ → ℕ → ℕ) (rules : List (Rule ℕ)) (order : List
 
   -- one whose step has too many parts
   pub overrun_one :
-      (f : ℕ) (ps : List ℕ) (c : ℕ) (v : VectorOf) (old : Listing) → IsStep product rules f (vectors_at order ps) c v → old.budget < old.parts + (2 + length ps) →
+      (f : ℕ) (ps : List ℕ) (c : ℕ) (v : VectorOf) (old : VectorListing) → IsStep product rules f (vectors_at order ps) c v → old.budget < old.parts + (2 + length ps) →
       StepsOverrun product rules order ((f, ps) ∷ []) old
   overrun_one f ps c v old is more es l =
       let e : Stepped = record { label = f; positions = ps; cost = c; vector = v } in

@@ -9,7 +9,7 @@ use Rattle.tib_grammar.specs.declared.Rule.{Rule}
 use Rattle.tib_cost.specs.Semiring.{ProductLaws}
 use Rattle.tib_determinize.specs.declared.alive.Alive.{Alive}
 use Rattle.tib_determinize.specs.declared.walk.Level.{Level}
-use Rattle.tib_determinize.specs.declared.listing.Listing.{Listing}
+use Rattle.tib_determinize.specs.declared.listing.VectorListing.{VectorListing}
 use Rattle.tib_determinize.specs.Vectors.{VectorOf, Rises, vector_at}
 use Rattle.tib_determinize.specs.Alive.{narrowed, HasPlace, AreLeft}
 use Rattle.tib_determinize.specs.Tries.{first_at, many_at, span, under, behind_label}
@@ -30,7 +30,7 @@ only_one n j i next end a b e = by (nat_eq i j) (same i j e) a b
     by false x a b = absurd (cc)
 
 -- what adds no edges
-pub adds_nothing : (product : ℕ → ℕ → ℕ) (rules : List (Rule ℕ)) (order : List VectorOf) (all : List (ℕ × List ℕ)) (old : Listing) → AreSteps product rules order all [] → AddsSteps product rules order all old old
+pub adds_nothing : (product : ℕ → ℕ → ℕ) (rules : List (Rule ℕ)) (order : List VectorOf) (all : List (ℕ × List ℕ)) (old : VectorListing) → AreSteps product rules order all [] → AddsSteps product rules order all old old
 adds_nothing product rules order all old none es l = ([], subst (IsListing old) (sym (append-nil es)) l, λ rest e. subst (AreSteps product rules order all) (sym e) none)
 
 module _

@@ -4,7 +4,7 @@ use Rattle.std.proofs.Common.{zero, suc, arith, ap, sym, ◌∙◌, subst, appen
 use Rattle.tib_lex.specs.Lists.{Has, Each}
 use Rattle.tib_grammar.specs.declared.Rule.{Rule}
 use Rattle.tib_determinize.specs.declared.walk.Level.{Level}
-use Rattle.tib_determinize.specs.declared.listing.Listing.{Listing}
+use Rattle.tib_determinize.specs.declared.listing.VectorListing.{VectorListing}
 use Rattle.tib_determinize.specs.Vectors.{VectorOf, Rises, vector_at}
 use Rattle.tib_determinize.specs.Tries.{first_at, many_at, span, under, behind_label}
 use Rattle.tib_determinize.specs.Levels.{IsLevel, IsWanted, moved, copies, level_list, past, pending, pending_below, steps_at, steps_of, tries_of}
@@ -84,9 +84,9 @@ steps_fewer many ls l (Some m) next f =
 pub steps_done : (many : ℕ) (ls : List Level) (l : Level) → steps_of many ls < steps_of many (ls ++ l ∷ [])
 steps_done many ls l = let a = steps_append many ls (l ∷ []) in omega (arith, a)
 
-module _ (product : ℕ → ℕ → ℕ) (rules : List (Rule ℕ)) (order : List VectorOf) (f k n j : ℕ) (all : List (ℕ × List ℕ)) (old : Listing) where
+module _ (product : ℕ → ℕ → ℕ) (rules : List (Rule ℕ)) (order : List VectorOf) (f k n j : ℕ) (all : List (ℕ × List ℕ)) (old : VectorListing) where
   -- between two steps of the loop
-  pub record IsWalking (ls : List Level) (now : Listing) : Type 0 where
+  pub record IsWalking (ls : List Level) (now : VectorListing) : Type 0 where
     pub listed : IsUnderway product rules order all (behind_label f (pending n j ls)) old now
     pub levels : Each (IsLevel product rules order f k n j) ls
     pub few : Each (λ l. l.end - l.next ≤ length order) ls
@@ -113,7 +113,7 @@ module _ (product : ℕ → ℕ → ℕ) (rules : List (Rule ℕ)) (order : List
   }
 
   -- a level that is done is left out
-  pub walking_done : (ls : List Level) (l : Level) (now : Listing) → l.end ≤ l.next → IsWalking (ls ++ l ∷ []) now → IsWalking ls now
+  pub walking_done : (ls : List Level) (l : Level) (now : VectorListing) → l.end ≤ l.next → IsWalking (ls ++ l ∷ []) now → IsWalking ls now
   walking_done ls l now h w = record {
     listed = subst (λ (xs : List (List ℕ)). IsUnderway product rules order all (behind_label f xs) old now)
         (pending_more n j ls l ∙ ap (λ (xs : List (List ℕ)). xs ++ pending n j ls) (tries_done n j l h)) w.listed;
@@ -130,12 +130,12 @@ module _ (product : ℕ → ℕ → ℕ) (rules : List (Rule ℕ)) (order : List
       ∙ labelled_append f (under n j l.place (l.next ∷ l.behind.items)) (tries_of n j (past l) ++ pending n j ls)
 
   -- the last level of those between two steps
-  pub last_level : (ls : List Level) (l : Level) (now : Listing) → IsWalking (ls ++ l ∷ []) now → IsLevel product rules order f k n j l
+  pub last_level : (ls : List Level) (l : Level) (now : VectorListing) → IsWalking (ls ++ l ∷ []) now → IsLevel product rules order f k n j l
   last_level ls l now w = (each_front (IsLevel product rules order f k n j) ls (l ∷ []) w.levels).1.0
 
   -- its next position was tried
   pub walking_next :
-      (ls : List Level) (l : Level) (below : Option Level) (mid now : Listing) → l.next < l.end → IsWalking (ls ++ l ∷ []) mid →
+      (ls : List Level) (l : Level) (below : Option Level) (mid now : VectorListing) → l.next < l.end → IsWalking (ls ++ l ∷ []) mid →
       IsUnderway product rules order (behind_label f (under n j l.place (l.next ∷ l.behind.items))) (behind_label f (pending_below n j below)) mid now →
       ((b : Level) → below ≡ Some b → IsLevel product rules order f k n j b) → ((b : Level) → below ≡ Some b → b.end - b.next ≤ length order) → IsWalking (ls ++ past l ∷ level_list below) now
   walking_next ls l below mid now h w u is few =
@@ -166,7 +166,7 @@ module _ (product : ℕ → ℕ → ℕ) (rules : List (Rule ℕ)) (order : List
 
   -- its next position has too many parts
   pub walking_overruns :
-      (ls : List Level) (l : Level) (mid : Listing) → l.next < l.end → old.budget ≡ mid.budget → IsWalking (ls ++ l ∷ []) mid →
+      (ls : List Level) (l : Level) (mid : VectorListing) → l.next < l.end → old.budget ≡ mid.budget → IsWalking (ls ++ l ∷ []) mid →
       StepsOverrun product rules order (behind_label f (under n j l.place (l.next ∷ l.behind.items))) mid → StepsOverrun product rules order all old
   walking_overruns ls l mid h same w o =
       overrun_next product rules order all old mid (behind_label f (under n j l.place (l.next ∷ l.behind.items))) (behind_label f (tries_of n j (past l) ++ pending n j ls)) same
@@ -174,7 +174,7 @@ module _ (product : ℕ → ℕ → ℕ) (rules : List (Rule ℕ)) (order : List
 
   -- positions between that are not wanted are left out
   pub walking_skips :
-      {levelled weighted : Bool} (laws : ProductLaws levelled weighted product) (normal : AreNormal rules) (rise : Each (λ v. Rises v) order) (ls : List Level) (l m : Level) (now : Listing) →
+      {levelled weighted : Bool} (laws : ProductLaws levelled weighted product) (normal : AreNormal rules) (rise : Each (λ v. Rises v) order) (ls : List Level) (l m : Level) (now : VectorListing) →
       m ≡ moved l m.next → l.next ≤ m.next → (l.next ≤ l.end → m.next ≤ l.end) → ((p : ℕ) → l.next ≤ p → p < m.next → Has l.wanted.items p → ⊥) →
       IsWalking (ls ++ l ∷ []) now → IsWalking (ls ++ m ∷ []) now
   walking_skips laws normal rise ls l m now is from to between w =

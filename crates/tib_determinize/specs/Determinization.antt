@@ -8,7 +8,7 @@ use Rattle.tib_tree.specs.Trees.{size}
 use Rattle.tib_grammar.specs.Sides.{over}
 use Rattle.tib_grammar.specs.Run.{rule_at}
 use Rattle.tib_grammar.specs.declared.Rule.{Rule}
-use Rattle.tib_expand.specs.Reached.{Operation, operation, IsReachedSet}
+use Rattle.tib_expand.specs.Reached.{Exploration, exploration, IsReachedSet}
 use Rattle.tib_expand.specs.Keys.{key_parts}
 use Rattle.tib_determinize.specs.Vectors.{VectorOf, Rises, IsStep, vectors_at}
 
@@ -43,9 +43,9 @@ edge_parts e = 1 + size e.right
 
 -- From the vectors of the labels over none, each position leads on along each label over the
 -- vectors up to there. A vector has one part and one for each of its states.
-abbrev pub determinization : (ℕ → ℕ → ℕ) → List (Rule ℕ) → Operation VectorOf (ℕ × List ℕ) (Rule VectorOf)
+abbrev pub determinization : (ℕ → ℕ → ℕ) → List (Rule ℕ) → Exploration VectorOf (ℕ × List ℕ) (Rule VectorOf)
 determinization product rules =
-    operation (λ v w. vector_cmp v w) (IsSeed product rules) (IsVectorSeed product rules) (IsVectorEdge product rules) (λ e. ends_of e)
+    exploration (λ v w. vector_cmp v w) (IsSeed product rules) (IsVectorSeed product rules) (IsVectorEdge product rules) (λ e. ends_of e)
     (key_parts (λ v. length v)) (λ e. edge_parts e)
 
 -- a vector that may be in an order: its states ascend and are below a number, and it has one

@@ -6,7 +6,7 @@ use Rattle.tib_grammar.specs.declared.Rule.{Rule}
 use Rattle.tib_expand.specs.Reached.{most_parts}
 use Rattle.tib_cost.specs.Semiring.{most}
 use Rattle.tib_determinize.specs.VectorRules.{PlacedRule, placed_rule}
-use Rattle.tib_determinize.specs.declared.listing.Listing.{Listing}
+use Rattle.tib_determinize.specs.declared.listing.VectorListing.{VectorListing}
 use Rattle.tib_determinize.specs.Vectors.{VectorOf, IsStepCost, IsStep, vectors_at}
 
 -- an edge: its label and positions, its cost, and the vector that it leads from
@@ -25,19 +25,19 @@ rules_from i [] = []
 rules_from i (e ∷ es) = record { end = i; label = e.label; positions = e.positions; cost = e.cost } ∷ rules_from (suc i) es
 
 -- the list has these edges
-pub record IsListing (l : Listing) (es : List Stepped) : Type 0 where
+pub record IsListing (l : VectorListing) (es : List Stepped) : Type 0 where
   pub ends : l.ends.items ≡ map (λ e. e.vector) es
   pub rules : map placed_rule l.rules.items ≡ rules_from 0 es
   pub parts : l.parts ≡ total stepped_parts es
 
 -- the list with one edge appended
-pub record IsAdded (label : ℕ) (positions : List ℕ) (cost : ℕ) (vector : VectorOf) (old new : Listing) : Type 0 where
+pub record IsAdded (label : ℕ) (positions : List ℕ) (cost : ℕ) (vector : VectorOf) (old new : VectorListing) : Type 0 where
   pub ends : new.ends.items ≡ old.ends.items ++ vector ∷ []
   pub rules : map placed_rule new.rules.items ≡ map placed_rule old.rules.items ++ record { end = length old.ends.items; label = label; positions = positions; cost = cost } ∷ []
   pub parts : new.parts ≡ old.parts + (2 + length positions)
 
 -- the list and its size stay within the budget
-pub record IsWithinBudget (l : Listing) : Type 0 where
+pub record IsWithinBudget (l : VectorListing) : Type 0 where
   pub few : length l.ends.items ≤ l.parts
   pub within : l.parts ≤ l.budget
   pub budget : l.budget ≤ most_parts
@@ -60,23 +60,23 @@ module _ (product : ℕ → ℕ → ℕ) (rules : List (Rule ℕ)) (order : List
 
   -- Of all that are tried some remain: what was listed since, with the edges of those that remain,
   -- are the edges of all.
-  abbrev pub IsUnderway : List (ℕ × List ℕ) → List (ℕ × List ℕ) → Listing → Listing → Type 0
+  abbrev pub IsUnderway : List (ℕ × List ℕ) → List (ℕ × List ℕ) → VectorListing → VectorListing → Type 0
   IsUnderway all remaining old now =
       (es : List Stepped) → IsListing old es → (done : List Stepped) × IsListing now (es ++ done) × ((rest : List Stepped) → AreSteps remaining rest → AreSteps all (done ++ rest))
 
   -- the list with the edges of all that are tried appended
-  abbrev pub AddsSteps : List (ℕ × List ℕ) → Listing → Listing → Type 0
+  abbrev pub AddsSteps : List (ℕ × List ℕ) → VectorListing → VectorListing → Type 0
   AddsSteps all old new = IsUnderway all [] old new
 
   -- some first ones of these edges have more parts than the budget leaves
-  abbrev pub StepsOverrun : List (ℕ × List ℕ) → Listing → Type 0
+  abbrev pub StepsOverrun : List (ℕ × List ℕ) → VectorListing → Type 0
   StepsOverrun all old =
       (es : List Stepped) → IsListing old es →
       (done : List Stepped) × (remaining : List (ℕ × List ℕ)) × (old.budget < total stepped_parts (es ++ done))
       × ((rest : List Stepped) → AreSteps remaining rest → AreSteps all (done ++ rest))
 
   -- the list has the edges of all that are tried
-  abbrev pub HasSteps : List (ℕ × List ℕ) → Listing → Type 0
+  abbrev pub HasSteps : List (ℕ × List ℕ) → VectorListing → Type 0
   HasSteps all l = (es : List Stepped) × IsListing l es × AreSteps all es
 
   -- some first ones of these edges have more parts than the budget

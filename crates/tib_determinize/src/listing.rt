@@ -22,22 +22,22 @@ fn copied(alloc: Global, positions: &[u32]) -> Result<Vec<u32>, AllocError>
 
 /// Edges, as far as they are listed.
 #[derive(Drop)]
-pub(crate) struct Listing {
+pub(crate) struct VectorListing {
     ends: Vec<Vector>,
     rules: Vec<VectorRule>,
     parts: u64,
     budget: u64,
 }
 
-impl Listing {
+impl VectorListing {
     /// The empty list.
-    pub fn new(alloc: Global, budget: u64) -> Listing
+    pub fn new(alloc: Global, budget: u64) -> VectorListing
         ensures budget { result.budget ≡ budget }
         ensures ends { length result.ends.items ≡ 0 }
         ensures rules { length result.rules.items ≡ 0 }
         ensures parts { result.parts ≡ 0 }
     {
-        Listing {
+        VectorListing {
             ends: Vec::new(alloc),
             rules: Vec::new(alloc),
             parts: 0,
@@ -95,7 +95,7 @@ impl Listing {
         ensures rules { result.rules.items ≡ self.rules.items }
         ensures parts { result.parts ≡ self.parts }
     {
-        let Listing {
+        let VectorListing {
             ends,
             rules,
             parts,

@@ -14,7 +14,7 @@ ghost use Rattle.tib_determinize.specs.Vectors.{Rises, vector_at};
 
 use crate::alive::{begin, begin_at};
 use crate::holders::Holders;
-use crate::listing::Listing;
+use crate::listing::VectorListing;
 use crate::occurrences::{Occurrence, Occurrences};
 use crate::shapes::shapes_of;
 use crate::vector::Vector;
@@ -97,7 +97,7 @@ impl<'a, S: Semiring> Residuals<'a, S> {
         shape: (Label, u32),
         places: &[Occurrence],
         holders: Option<&Holders>,
-        listing: &mut Listing,
+        listing: &mut VectorListing,
     ) -> Result<(), ExpandError>
         requires standing { HaveStanding self.now.normal.now.rules self.now.occurrences.many shape.0
             shape.1 (vector_at order.now position) places.now }
@@ -175,7 +175,7 @@ impl<'a, S: Semiring> Residuals<'a, S> {
         order: &[Vector],
         position: u32,
         budget: u64,
-    ) -> Result<Listing, ExpandError>
+    ) -> Result<VectorListing, ExpandError>
         requires rise { Each (λ v. Rises v) order.now }
         requires position { position < length order.now }
         requires budget { budget ≤ most_parts }
@@ -195,7 +195,7 @@ impl<'a, S: Semiring> Residuals<'a, S> {
         let Ok(found) = self.occurrences.standing(alloc, vector) else {
             return Err(ExpandError::OutOfMemory);
         };
-        let mut listing = Listing::new(alloc, budget);
+        let mut listing = VectorListing::new(alloc, budget);
         let shapes: &[(Label, u32)] = &self.shapes;
         for i in 0..shapes.len() {
             let shape = &shapes[i];
@@ -223,7 +223,7 @@ impl<'a, S: Semiring> Residuals<'a, S> {
         &self,
         alloc: Global,
         shape: (Label, u32),
-        listing: &mut Listing,
+        listing: &mut VectorListing,
     ) -> Result<(), ExpandError>
         requires within { IsWithinBudget listing.old }
         ensures added { OnOk result (AddsSteps S.product self.now.normal.now.rules []
@@ -254,7 +254,7 @@ impl<'a, S: Semiring> Residuals<'a, S> {
     }
 
     /// The edges of the labels over no vector.
-    pub(crate) fn list_leaves(&self, alloc: Global, budget: u64) -> Result<Listing, ExpandError>
+    pub(crate) fn list_leaves(&self, alloc: Global, budget: u64) -> Result<VectorListing, ExpandError>
         requires budget { budget ≤ most_parts }
         ensures listed { IfOk result (HasSteps S.product self.now.normal.now.rules []
             (leaf_tries (shapes_in self.now.normal.now.rules))) }
@@ -263,7 +263,7 @@ impl<'a, S: Semiring> Residuals<'a, S> {
         ensures within { IfOk result IsWithinBudget }
         ensures budget { IfOk result (λ l. l.budget ≡ budget) }
     {
-        let mut listing = Listing::new(alloc, budget);
+        let mut listing = VectorListing::new(alloc, budget);
         let shapes: &[(Label, u32)] = &self.shapes;
         for i in 0..shapes.len() {
             let shape = &shapes[i];

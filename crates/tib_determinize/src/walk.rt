@@ -15,7 +15,7 @@ ghost use Rattle.tib_determinize.specs.Vectors.{Rises, vector_at};
 
 use crate::alive::{Alive, costs, narrow};
 use crate::holders::Holders;
-use crate::listing::Listing;
+use crate::listing::VectorListing;
 use crate::settling::settle;
 use crate::vector::Vector;
 use crate::wanted::{next_wanted, wanted_at};
@@ -149,7 +149,7 @@ pub(crate) fn list<S: Semiring>(
     walk: &Walk<'_>,
     positions: &[u32],
     alive: &[Alive],
-    listing: &mut Listing,
+    listing: &mut VectorListing,
 ) -> Result<(), ExpandError>
     requires alive { AreAlive S.product walk.now.rules.now walk.now.order.now walk.now.label
         walk.now.rank 0 positions.now alive.now }
@@ -181,7 +181,7 @@ fn visit<S: Semiring>(
     walk: &Walk<'_>,
     holders: Option<&Holders>,
     level: &Level,
-    listing: &mut Listing,
+    listing: &mut VectorListing,
 ) -> Result<Option<Level>, ExpandError>
     requires normal { AreNormal walk.now.rules.now }
     requires rise { Each (λ v. Rises v) walk.now.order.now }
@@ -273,7 +273,7 @@ pub(crate) fn list_all<S: Semiring>(
     walk: &Walk<'_>,
     holders: Option<&Holders>,
     alive: Vec<Alive>,
-    listing: &mut Listing,
+    listing: &mut VectorListing,
 ) -> Result<(), ExpandError>
     requires normal { AreNormal walk.now.rules.now }
     requires rise { Each (λ v. Rises v) walk.now.order.now }

@@ -9,7 +9,7 @@ use Rattle.tib_lex.specs.Lists.{Has, Distinct, total}
 use Rattle.tib_expand.specs.EdgeLists.{Exceeds}
 use Rattle.tib_expand.specs.Lawful.{IsLawful}
 use Rattle.tib_expand.specs.Reading.{Reading}
-use Rattle.tib_expand.specs.Reached.{IfTooMany, Operation, AreAscending, IsNew, AfterRounds, IsReached, AreEdges, IsBeyond, Leads}
+use Rattle.tib_expand.specs.Reached.{IfTooMany, Exploration, AreAscending, IsNew, AfterRounds, IsReached, AreEdges, IsBeyond, Leads}
 pub use Rattle.tib_expand.proofs.Limits.{IfTooMany-weaker}
 use Rattle.tib_expand.proofs.Members.{total_fewer, same_ascending, Lists-parts, Lists-to}
 use Rattle.tib_lex.proofs.Members.{has_left, has_right}
@@ -40,7 +40,7 @@ apart cmp o x y a b = less≢greater (sym a ∙ o.antisymm x y ∙ ap ordering_r
 
 -- The laws of an operation: its keys have a total order, an origin gives one edge, and the edges of
 -- a position stay when the order grows.
-pub record Laws {K O E : Type 0} (p : Operation K O E) : Type 0 where
+pub record Laws {K O E : Type 0} (p : Exploration K O E) : Type 0 where
   pub total_order : IsTotalOrder p.cmp
   pub one_seed_edge : (o : O) (e f : E) → p.seed_edge o e → p.seed_edge o f → e ≡ f
   pub one_edge : (order : List K) (n : ℕ) (o : O) (e f : E) → p.edge order n o e → p.edge order n o f → e ≡ f
@@ -48,14 +48,14 @@ pub record Laws {K O E : Type 0} (p : Operation K O E) : Type 0 where
   pub back : (xs ys : List K) (n : ℕ) (o : O) (e : E) → n < length xs → p.edge (xs ++ ys) n o e → p.edge xs n o e
 
 -- What the lemmas on a hunt take: the operation is lawful, and keys that compare equal are one.
-pub record IsHunt {K O E R T : Type 0} (p : Operation K O E) (admits : K → Type 0) (reading : Reading K E R T) (cmp : K → K → Ordering) (entries : K → ℕ) (eq : K → K → Bool) : Type 0 where
+pub record IsHunt {K O E R T : Type 0} (p : Exploration K O E) (admits : K → Type 0) (reading : Reading K E R T) (cmp : K → K → Ordering) (entries : K → ℕ) (eq : K → K → Bool) : Type 0 where
   pub lawful : IsLawful p admits reading cmp entries
   pub laws : Laws p
   pub same : (x y : K) → eq x y ≡ true → x ≡ y
   pub self : (x : K) → eq x x ≡ true
 
 -- a lawful operation has these laws
-laws_of : {K O E R T : Type 0} {p : Operation K O E} {admits : K → Type 0} {reading : Reading K E R T} {cmp : K → K → Ordering} {entries : K → ℕ} → IsLawful p admits reading cmp entries → IsTotalOrder cmp → Laws p
+laws_of : {K O E R T : Type 0} {p : Exploration K O E} {admits : K → Type 0} {reading : Reading K E R T} {cmp : K → K → Ordering} {entries : K → ℕ} → IsLawful p admits reading cmp entries → IsTotalOrder cmp → Laws p
 laws_of lawful total = record {
   total_order = subst IsTotalOrder (sym lawful.same_order) total;
   one_seed_edge = lawful.one_seed_edge;
@@ -75,11 +75,11 @@ laws_of lawful total = record {
     front (x ∷ xs) ys (suc m) l = ap (λ (k : List _). x ∷ k) (front xs ys m (omega arith))
 
 -- what lemmas take, from a lawful operation and what the key type promises
-pub hunt_of : {K O E R T : Type 0} {p : Operation K O E} {admits : K → Type 0} {reading : Reading K E R T} {cmp : K → K → Ordering} {entries : K → ℕ} {eq : K → K → Bool}
+pub hunt_of : {K O E R T : Type 0} {p : Exploration K O E} {admits : K → Type 0} {reading : Reading K E R T} {cmp : K → K → Ordering} {entries : K → ℕ} {eq : K → K → Bool}
     → IsLawful p admits reading cmp entries → IsTotalOrder cmp → ((x y : K) → eq x y ≡ true → x ≡ y) → ((x : K) → eq x x ≡ true) → IsHunt p admits reading cmp entries eq
 hunt_of lawful total same self = record { lawful = lawful; laws = laws_of lawful total; same = same; self = self }
 
-module _ {K O E : Type 0} (p : Operation K O E) (laws : Laws p) where
+module _ {K O E : Type 0} (p : Exploration K O E) (laws : Laws p) where
   -- edges
 
   -- the edges of the first positions stay when the order grows

@@ -2,13 +2,13 @@
 use Rattle.std.specs.Prelude.{◌≡◌, ◌↔◌, ℕ, List, []}
 use Rattle.tib_lex.specs.Lists.{Has}
 use Rattle.tib_expand.specs.EdgeLists.{AreListed, Exceeds, IsEnd}
-use Rattle.tib_expand.specs.Reached.{Operation}
+use Rattle.tib_expand.specs.Reached.{Exploration}
 use Rattle.tib_expand.specs.Reading.{Reading}
 use Rattle.tib_expand.specs.declared.place.Edges.{Edges}
 use Rattle.tib_expand.specs.declared.place.ExpandError.{ExpandError}
 use Rattle.tib_expand.specs.declared.place.ExpandError.TheVariants.{More}
 
-module _ {K O E R T : Type 0} (p : Operation K O E) (reading : Reading K E R T) where
+module _ {K O E R T : Type 0} (p : Exploration K O E) (reading : Reading K E R T) where
   -- the list has the edges of the seeds
   abbrev pub ListsSeedEdges : Edges K R → Type 0
   ListsSeedEdges edges = AreListed p.seed_edge p.edge_parts reading.places reading.read_places [] edges.ends.items edges.rules.items edges.parts
@@ -21,7 +21,7 @@ module _ {K O E R T : Type 0} (p : Operation K O E) (reading : Reading K E R T) 
 abbrev pub HasEnds : {K R : Type 0} → (K → Type 0) → Edges K R → Type 0
 HasEnds {K} P edges = (k : K) → Has edges.ends.items k ↔ P k
 
-module _ {K O E : Type 0} (p : Operation K O E) where
+module _ {K O E : Type 0} (p : Exploration K O E) where
   -- k is an end of an edge of a position of the order
   abbrev pub IsEndAt : List K → ℕ → K → Type 0
   IsEndAt order n k = IsEnd (p.edge order n) p.ends_of k

@@ -1,6 +1,6 @@
 -- What a hunt returns.
 use Rattle.std.specs.Prelude.{◌≡◌, List, length, map, slice_index_or}
-use Rattle.tib_expand.specs.Reached.{Operation, IsReachedSet, parts_of}
+use Rattle.tib_expand.specs.Reached.{Exploration, IsReachedSet, parts_of}
 use Rattle.tib_expand.specs.Reading.{Reading, AreBelow}
 use Rattle.tib_expand.specs.declared.found.Found.{Found}
 
@@ -14,7 +14,7 @@ module _ {K E R T : Type 0} (reading : Reading K E R T) where
   abbrev pub AreWithinOrder : Found K T → Type 0
   AreWithinOrder found = AreBelow reading.positions (length found.order.items) found.rules.items
 
-module _ {K O E R T : Type 0} (p : Operation K O E) (reading : Reading K E R T) where
+module _ {K O E R T : Type 0} (p : Exploration K O E) (reading : Reading K E R T) where
   -- the order and the edges of the rules are the reached set
   abbrev pub IsFound : Found K T → Type 0
   IsFound found = (d : K) → IsReachedSet p found.order.items (edges_found reading d found)

@@ -3,7 +3,7 @@ use Rattle.std.specs.Prelude.{◌≡◌, ℕ, ◌+◌, ◌<◌, List, length, ta
 use Rattle.std.specs.declared.cmp.Ordering.{Ordering}
 use Rattle.tib_lex.specs.Lists.{Has, Each}
 use Rattle.tib_expand.specs.Keys.{key_parts}
-use Rattle.tib_expand.specs.Reached.{Operation}
+use Rattle.tib_expand.specs.Reached.{Exploration}
 use Rattle.tib_expand.specs.Reading.{Reading}
 use Rattle.tib_expand.specs.declared.place.Place.{Place}
 
@@ -11,7 +11,7 @@ use Rattle.tib_expand.specs.declared.place.Place.{Place}
 -- only on the keys at its places, or positions. An origin gives one edge. Seeds are admitted, and
 -- so are the ends of edges over admitted keys. The seeds' edges end at seeds. The edges of a
 -- position depend only on the order up to there.
-pub record IsLawful {K O E R T : Type 0} (p : Operation K O E) (admits : K → Type 0) (reading : Reading K E R T) (cmp : K → K → Ordering) (entries : K → ℕ) : Type 0 where
+pub record IsLawful {K O E R T : Type 0} (p : Exploration K O E) (admits : K → Type 0) (reading : Reading K E R T) (cmp : K → K → Ordering) (entries : K → ℕ) : Type 0 where
   pub same_order : p.cmp ≡ cmp
   pub same_parts : p.key_parts ≡ key_parts entries
   pub reads_places : (rule : R) (f g : Place → K) → Each (λ place. f place ≡ g place) (reading.places rule) → reading.read_places f rule ≡ reading.read_places g rule

@@ -12,7 +12,7 @@ pub use Rattle.tib_expand.specs.Limits.{IfTooMany}
 -- What an operation hunts: the order of keys, the seeds, the edges of the seeds and of each
 -- position of an order, each by its origin, the keys at which an edge ends, and the parts of a key
 -- and of an edge.
-pub record Operation (K O E : Type 0) : Type 1 where
+pub record Exploration (K O E : Type 0) : Type 1 where
   pub cmp : K → K → Ordering
   pub seed : K → Type 0
   pub seed_edge : O → E → Type 0
@@ -21,9 +21,9 @@ pub record Operation (K O E : Type 0) : Type 1 where
   pub key_parts : K → ℕ
   pub edge_parts : E → ℕ
 
-abbrev pub operation : {K O E : Type 0} → (K → K → Ordering) → (K → Type 0) → (O → E → Type 0) → (List K → ℕ → O → E → Type 0) → (E → List K)
-    → (K → ℕ) → (E → ℕ) → Operation K O E
-operation cmp seed seed_edge edge ends_of key_parts edge_parts = record {
+abbrev pub exploration : {K O E : Type 0} → (K → K → Ordering) → (K → Type 0) → (O → E → Type 0) → (List K → ℕ → O → E → Type 0) → (E → List K)
+    → (K → ℕ) → (E → ℕ) → Exploration K O E
+exploration cmp seed seed_edge edge ends_of key_parts edge_parts = record {
   cmp = cmp;
   seed = seed;
   seed_edge = seed_edge;
@@ -37,7 +37,7 @@ operation cmp seed seed_edge edge ends_of key_parts edge_parts = record {
 -- 2n and 3n. The order begins with 1. The first round appends 2 and 3. The second expands these
 -- two, and appends 4, 6 and 9, each once. The third appends nothing: the reached set is 1, 2, 3, 4,
 -- 6, 9 with six edges.
-module _ {K O E : Type 0} (p : Operation K O E) where
+module _ {K O E : Type 0} (p : Exploration K O E) where
   -- the keys of which P holds, each once, ascending
   abbrev pub AreAscending : (K → Type 0) → List K → Type 0
   AreAscending P ks = Ascends (λ a b. p.cmp a b ≡ Less) ks × ((k : K) → Has ks k ↔ P k)
@@ -76,6 +76,6 @@ module _ {K O E : Type 0} (p : Operation K O E) where
   IsBeyond limit = (order : List K) (es : List E) → IsReachedSet order es → limit < parts_of order es
 
 -- `order` is the front of each reached order, and all `keys` are in that
-pub record Leads {K O E : Type 0} (p : Operation K O E) (order keys : List K) : Type 0 where
+pub record Leads {K O E : Type 0} (p : Exploration K O E) (order keys : List K) : Type 0 where
   pub front : (whole : List K) → IsReached p whole → (rest : List K) × (whole ≡ order ++ rest)
   pub stand : (whole : List K) → IsReached p whole → (k : K) → Has keys k → Has whole k

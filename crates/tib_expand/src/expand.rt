@@ -13,7 +13,7 @@ ghost use Rattle.tib_expand.specs.Expanded.{
   IfMore,
 };
 ghost use Rattle.tib_expand.specs.Lawful.{IsLawful};
-ghost use Rattle.tib_expand.specs.Reached.{Operation, most_parts};
+ghost use Rattle.tib_expand.specs.Reached.{Exploration, most_parts};
 ghost use Rattle.tib_expand.specs.Reading.{Reading, ReadsAlike, HasPositions};
 
 use crate::place::{Edges, ExpandError};
@@ -40,7 +40,7 @@ pub trait Expand {
 
     // What is hunted: the seeds, the edges of the seeds and of each position of an order, their
     // ends and their parts.
-    ghost hunted: { Self → Operation Self.Key Self.Origin Self.Edge };
+    ghost hunted: { Self → Exploration Self.Key Self.Origin Self.Edge };
 
     // The keys that an order may have.
     ghost admits: { Self → Self.Key → Type 0 };

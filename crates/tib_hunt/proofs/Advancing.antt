@@ -7,7 +7,7 @@ use Rattle.std.specs.declared.cmp.Ordering.TheVariants.{Less}
 use Rattle.indexmap.specs.IndexSet.{insert_all}
 use Rattle.tib_lex.specs.Lists.{Has, Distinct, Ascends, total}
 use Rattle.tib_expand.specs.EdgeLists.{AreListed, IsEnd, Exceeds, key_at}
-use Rattle.tib_expand.specs.Reached.{Operation, IsNew, AfterRounds, IsReached, AreEdges, IsBeyond, Leads}
+use Rattle.tib_expand.specs.Reached.{Exploration, IsNew, AfterRounds, IsReached, AreEdges, IsBeyond, Leads}
 use Rattle.tib_hunt.specs.Numbered.{Name, HaveMore, IsInOrder, moved_to}
 use Rattle.tib_expand.specs.Keys.{key_parts}
 use Rattle.tib_expand.specs.Reading.{Reading}
@@ -26,7 +26,7 @@ apart_of [] ys k d h m = h
 apart_of (x ∷ xs) ys k d (inl e) m = d.0 (has_right xs ys x (subst (Has ys) (sym e) m))
 apart_of (x ∷ xs) ys k d (inr h) m = apart_of xs ys k d.1 h m
 
-module _ {K O E R T : Type 0} {p : Operation K O E} {admits : K → Type 0} {reading : Reading K E R T}
+module _ {K O E R T : Type 0} {p : Exploration K O E} {admits : K → Type 0} {reading : Reading K E R T}
     {cmp : K → K → Ordering} {entries : K → ℕ} {eq : K → K → Bool} (hunt : IsHunt p admits reading cmp entries eq) where
   -- the keys have no more parts than all together
   pub keys_counted : {order keys : List K} {rules : List T} {rows : List (NumberedRow R)} {parts limit : ℕ} → IsHeld hunt order keys rules rows parts limit → total (key_parts entries) keys ≤ parts

@@ -4,7 +4,7 @@ use Rattle.std.specs.declared.cmp.Ordering.{Ordering}
 use Rattle.indexmap.specs.IndexSet.{insert_all}
 use Rattle.tib_lex.specs.Lists.{Has, Each, total}
 use Rattle.tib_expand.specs.EdgeLists.{AreListed}
-use Rattle.tib_expand.specs.Reached.{Operation, IsReachedSet, AreEdges, parts_of}
+use Rattle.tib_expand.specs.Reached.{Exploration, IsReachedSet, AreEdges, parts_of}
 use Rattle.tib_hunt.specs.Numbered.{Name, IsInOrder, moved_to}
 use Rattle.tib_expand.specs.Keys.{key_parts}
 use Rattle.tib_expand.specs.Reading.{Reading, AreBelow}
@@ -15,7 +15,7 @@ use Rattle.tib_hunt.proofs.Holding.{IsHeld, IsBetween, IsWithinRound}
 use Rattle.tib_table.proofs.Sights.{take_front, drop_front}
 use Rattle.tib_hunt.proofs.Advancing.{round_ends, hunt_begins, seeds_held}
 
-module _ {K O E R T : Type 0} {p : Operation K O E} {admits : K → Type 0} {reading : Reading K E R T}
+module _ {K O E R T : Type 0} {p : Exploration K O E} {admits : K → Type 0} {reading : Reading K E R T}
     {cmp : K → K → Ordering} {entries : K → ℕ} {eq : K → K → Bool} (hunt : IsHunt p admits reading cmp entries eq) where
   -- the order of the keys is that of the operation
   in_order : {order fresh keys : List K} {moved : List ℕ} → IsInOrder cmp order fresh keys moved → IsInOrder p.cmp order fresh keys moved

@@ -7,14 +7,14 @@ use Rattle.tib_lex.proofs.Lists.{total_append}
 use Rattle.std.proofs.lemmas.List.{take_more}
 use Rattle.tib_table.specs.Known.{on, Names, AreShelves}
 use Rattle.tib_table.specs.declared.number.Number.{Number}
-use Rattle.tib_crew.specs.Rows.{NameOn, AreRowsFrom, IsSlot, AreSlots, LeaveTooLittle, parts_in, slot_parts, parts_of_slots}
-use Rattle.tib_crew.specs.declared.row.Row.{Row}
-use Rattle.tib_crew.proofs.Rowing.{parts_append}
+use Rattle.tib_workers.specs.Rows.{NameOn, AreRowsFrom, IsSlot, AreSlots, LeaveTooLittle, parts_in, slot_parts, parts_of_slots}
+use Rattle.tib_workers.specs.declared.row.Row.{Row}
+use Rattle.tib_workers.proofs.Rowing.{parts_append}
 use Rattle.tib_expand.specs.EdgeLists.{Lists, Exceeds, IsEnd, key_at}
-use Rattle.tib_expand.specs.Reached.{Operation, AreEdges, IsBeyond, Leads}
+use Rattle.tib_expand.specs.Reached.{Exploration, AreEdges, IsBeyond, Leads}
 use Rattle.tib_expand.specs.Reading.{Reading}
 use Rattle.tib_hunt.specs.Known.{NameEnds}
-use Rattle.tib_hunt.specs.declared.known.Ruled.{Ruled}
+use Rattle.tib_hunt.specs.declared.lookups.Ruled.{Ruled}
 use Rattle.tib_hunt.specs.Held.{IsBetween, edges_so_far}
 use Rattle.tib_hunt.specs.Shelved.{IsKnownRow, edges_of_rows, AreWorked, AreApart}
 use Rattle.tib_hunt.specs.Jobs.{items_in, IsLackedEnd, GivesEdges, ItemExceeds}
@@ -42,7 +42,7 @@ module _ {K : Type 0} where
   some [] n l = absurd (omega arith)
   some (x ∷ xs) n l = x
 
-module _ {K O E : Type 0} (p : Operation K O E) (laws : Laws p) where
+module _ {K O E : Type 0} (p : Exploration K O E) (laws : Laws p) where
   -- the edges of the first n positions, from those of more
   front_edges : (order : List K) (n m : ℕ) (fs : List E) → AreEdges p order (later m n) fs → (es : List E) × AreEdges p order n es
   front_edges order n zero fs a = (fs, a)
@@ -67,8 +67,8 @@ module _ {K O E : Type 0} (p : Operation K O E) (laws : Laws p) where
       let m = more e.0 (edges_back order f.0 (length order) e.0 (omega arith) (subst (λ (l : List K). AreEdges p l (length order) e.0) f.1 e.1)) in
       omega arith
 
-module _ {P K O E R T : Type 0} (of : P → Operation K O E) (reading : Reading K E R T) (x : P) (order : List K) (first : ℕ) where
-  abbrev p : Operation K O E
+module _ {P K O E R T : Type 0} (of : P → Exploration K O E) (reading : Reading K E R T) (x : P) (order : List K) (first : ℕ) where
+  abbrev p : Exploration K O E
   p = of x
 
   abbrev gives : P × List K × ℕ → ℕ → List K → Ruled R → ℕ → Type 0

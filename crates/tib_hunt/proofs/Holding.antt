@@ -7,7 +7,7 @@ use Rattle.std.specs.declared.cmp.Ordering.{Ordering}
 use Rattle.indexmap.specs.IndexSet.{insert_key, insert_all}
 use Rattle.tib_lex.specs.Lists.{Has, Each, Distinct, total}
 use Rattle.tib_expand.specs.EdgeLists.{AreListed, IsWithin, position_of, key_at}
-use Rattle.tib_expand.specs.Reached.{Operation, IsNew, AfterRounds, IsReached, Leads}
+use Rattle.tib_expand.specs.Reached.{Exploration, IsNew, AfterRounds, IsReached, Leads}
 use Rattle.tib_hunt.specs.Numbered.{Name, IsInOrder, moved_to}
 use Rattle.tib_expand.specs.Reading.{Reading, AreBelow}
 use Rattle.tib_hunt.specs.Rows.{NumberedRow, read_row, read_rows, IsRowBelow}
@@ -54,7 +54,7 @@ as_many keys (x ∷ xs) (n ∷ ns) a = ap suc (as_many keys xs ns a.1)
 
 -- What holds while the positions below n are expanded, over the order at the round's beginning. The
 -- keys are those of the order and then the fresh ones.
-module _ {K O E R T : Type 0} {p : Operation K O E} {admits : K → Type 0} {reading : Reading K E R T}
+module _ {K O E R T : Type 0} {p : Exploration K O E} {admits : K → Type 0} {reading : Reading K E R T}
     {cmp : K → K → Ordering} {entries : K → ℕ} {eq : K → K → Bool} (hunt : IsHunt p admits reading cmp entries eq) where
   -- what is held, by the words of specs, for the operation of the hunt
   abbrev pub edges_so_far : K → List K → List T → List (NumberedRow R) → List E
@@ -247,7 +247,7 @@ module _ {K O E R T : Type 0} {p : Operation K O E} {admits : K → Type 0} {rea
     round_done rounds first after news = (order, first, sorts.sorted, after, (sorts.ascends, λ k. ((λ m. (news k).0 ((sorts.same k).0 m)), (λ n. (sorts.same k).1 ((news k).1 n)))), refl, sorts.keys_are)
 
 -- after a round the keys lead on
-module _ {K O E : Type 0} (p : Operation K O E) (laws : Laws p) where
+module _ {K O E : Type 0} (p : Exploration K O E) (laws : Laws p) where
   -- the order after some rounds leads on
   pub leads_on : (rounds first : ℕ) (order : List K) → AfterRounds p rounds first order → Leads p order order
   leads_on rounds first order after = record {

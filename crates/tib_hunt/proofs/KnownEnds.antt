@@ -3,11 +3,11 @@ use Rattle.std.proofs.Common.{◌≡◌, ◌⊎◌, inl, inr, ℕ, zero, suc, �
 use Rattle.tib_lex.specs.Lists.{Has}
 use Rattle.tib_table.specs.Known.{Names}
 use Rattle.tib_table.specs.declared.number.Number.{Number}
-use Rattle.tib_crew.specs.Rows.{NameOn}
+use Rattle.tib_workers.specs.Rows.{NameOn}
 use Rattle.tib_hunt.specs.Known.{AreSplit, NameAt}
 use Rattle.tib_hunt.proofs.OnShelves.{got_has}
-use Rattle.tib_hunt.specs.declared.known.EndAt.{EndAt}
-use Rattle.tib_hunt.specs.declared.known.EndAt.TheVariants.{Position, Numbered}
+use Rattle.tib_hunt.specs.declared.lookups.EndAt.{EndAt}
+use Rattle.tib_hunt.specs.declared.lookups.EndAt.TheVariants.{Position, Numbered}
 
 -- what is at a place is still there if more keys follow
 pub got_left : {K : Type 0} (xs ys : List K) (n : ℕ) (k : K) → slice_get xs n ≡ Some k → slice_get (xs ++ ys) n ≡ Some k

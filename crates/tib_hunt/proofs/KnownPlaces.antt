@@ -5,8 +5,8 @@ use Rattle.tib_lex.specs.Lists.{Each}
 use Rattle.tib_table.specs.declared.number.Number.{Number}
 use Rattle.tib_hunt.specs.Known.{position_on, IsOn, positions_at, HavePositionsAt}
 use Rattle.tib_hunt.specs.Numbered.{moved_to}
-use Rattle.tib_hunt.specs.declared.known.EndAt.{EndAt}
-use Rattle.tib_hunt.specs.declared.known.EndAt.TheVariants.{Position, Numbered}
+use Rattle.tib_hunt.specs.declared.lookups.EndAt.{EndAt}
+use Rattle.tib_hunt.specs.declared.lookups.EndAt.TheVariants.{Position, Numbered}
 
 -- from the index of an element on, it is the first
 drop_next : {A : Type 0} (xs : List A) (i : ℕ) (x : A) → i < length xs → x ≡ get_or xs i x → drop i xs ≡ x ∷ drop (suc i) xs

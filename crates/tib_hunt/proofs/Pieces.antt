@@ -3,14 +3,14 @@ use Rattle.std.proofs.Common.{◌≡◌, ℕ, ◌+◌, ◌<◌, List, [], ◌∷
 use Rattle.std.proofs.lemmas.List.{take-append-drop}
 use Rattle.tib_lex.specs.Lists.{Each}
 use Rattle.tib_lex.proofs.Lists.{each_append, each_left, each_right}
-use Rattle.tib_crew.specs.declared.row.Row.{Row as ItemRow}
+use Rattle.tib_workers.specs.declared.row.Row.{Row as ItemRow}
 use Rattle.tib_hunt.specs.Divided.{MayBePlaced, AddsRules}
 use Rattle.tib_hunt.specs.Known.{AreOn}
 use Rattle.tib_hunt.specs.Numbered.{moved_to}
 use Rattle.tib_expand.specs.Reading.{Reading}
 use Rattle.tib_hunt.specs.Rows.{NumberedRow, IsRowBelow, read_row, read_rows}
 use Rattle.tib_hunt.specs.Shelved.{placed_row}
-use Rattle.tib_hunt.specs.declared.known.Ruled.{Ruled}
+use Rattle.tib_hunt.specs.declared.lookups.Ruled.{Ruled}
 use Rattle.tib_expand.specs.declared.place.Place.{Place}
 use Rattle.tib_hunt.proofs.Settling.{map_both}
 

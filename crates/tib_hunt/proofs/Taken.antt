@@ -8,21 +8,21 @@ use Rattle.tib_lex.specs.Lists.{Has, Each, Distinct, Along, total}
 use Rattle.tib_table.specs.Known.{on, Names}
 use Rattle.tib_table.specs.declared.number.Number.{Number}
 use Rattle.tib_expand.specs.EdgeLists.{IsEnd, IsWithin, key_at, position_of}
-use Rattle.tib_expand.specs.Reached.{IfTooMany, Operation, AreEdges, IsBeyond, Leads}
+use Rattle.tib_expand.specs.Reached.{IfTooMany, Exploration, AreEdges, IsBeyond, Leads}
 use Rattle.tib_hunt.specs.Numbered.{Name, HaveMore}
 use Rattle.tib_expand.specs.Keys.{key_parts}
 use Rattle.tib_expand.specs.Reading.{Reading}
 use Rattle.tib_hunt.specs.Rows.{read_rows, IsRowBelow}
-use Rattle.tib_crew.specs.Rows.{NameOn}
+use Rattle.tib_workers.specs.Rows.{NameOn}
 use Rattle.tib_hunt.specs.Known.{NameAt, NameEnds, position_on, IsOn, positions_at, HavePositionsAt, end_positions, AreOn}
 use Rattle.tib_hunt.specs.Shelved.{all_on, IsKnownRow, edges_of_rows, placed_row, AreWorked}
-use Rattle.tib_hunt.specs.declared.known.EndAt.{EndAt}
-use Rattle.tib_hunt.specs.declared.known.EndAt.TheVariants.{Position, Numbered}
-use Rattle.tib_hunt.specs.declared.known.Ruled.{Ruled}
+use Rattle.tib_hunt.specs.declared.lookups.EndAt.{EndAt}
+use Rattle.tib_hunt.specs.declared.lookups.EndAt.TheVariants.{Position, Numbered}
+use Rattle.tib_hunt.specs.declared.lookups.Ruled.{Ruled}
 use Rattle.tib_hunt.specs.Held.{at, IsBetween as Between, IsWithinRound as WithinRound, edges_so_far as all_edges}
 use Rattle.tib_expand.specs.declared.error.HuntError.{HuntError}
 use Rattle.tib_expand.specs.declared.place.Place.{Place}
-use Rattle.tib_crew.specs.declared.row.Row.{Row as ItemRow}
+use Rattle.tib_workers.specs.declared.row.Row.{Row as ItemRow}
 use Rattle.tib_expand.proofs.Reaching.{IfTooMany-weaker, IsHunt, beyond}
 use Rattle.tib_hunt.proofs.Holding.{same_place, named_below, as_many, rules_same, leads_on}
 use Rattle.tib_table.proofs.Inserted.{Inserted, inserted}
@@ -126,7 +126,7 @@ module _ {K : Type 0} (keys : List K) where
       rows_read d (e ∷ sights) [] a = absurd a
       rows_read d (e ∷ sights) (r ∷ rows) a = λ i. rules_read d e (end_positions nss r.rules.at r.ends.items) (ends_named order fresh is e r.rules.at r.ends.items a.0.0) r.rules.rules.items a.0.1 i ++ rows_read d sights rows a.1 i
 
-module _ {K O E R T : Type 0} {p : Operation K O E} {admits : K → Type 0} {reading : Reading K E R T}
+module _ {K O E R T : Type 0} {p : Exploration K O E} {admits : K → Type 0} {reading : Reading K E R T}
     {cmp : K → K → Ordering} {entries : K → ℕ} {eq : K → K → Bool} (hunt : IsHunt p admits reading cmp entries eq) (shelf_of : K → ℕ) (low : (k : K) → shelf_of k < 16)
     (order : List K) (first : ℕ) (rules : List T) (was limit : ℕ) (b : Between p admits reading first order rules was limit)
     (kss : List (List K)) (rows : List (ItemRow (Ruled R))) (parts : ℕ) (u : AreWorked p reading shelf_of order first kss rows was parts limit) where

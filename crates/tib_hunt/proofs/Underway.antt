@@ -8,7 +8,7 @@ use Rattle.tib_lex.specs.Lists.{Has, Distinct, Along, total}
 use Rattle.tib_table.specs.Known.{on}
 use Rattle.tib_table.specs.declared.number.Number.{Number}
 use Rattle.tib_expand.specs.EdgeLists.{IsEnd, key_at}
-use Rattle.tib_expand.specs.Reached.{IfTooMany, Operation, AfterRounds, IsReached, AreEdges, IsBeyond}
+use Rattle.tib_expand.specs.Reached.{IfTooMany, Exploration, AfterRounds, IsReached, AreEdges, IsBeyond}
 use Rattle.tib_expand.specs.Expanded.{IsEndAt}
 use Rattle.tib_expand.specs.Keys.{key_parts}
 use Rattle.tib_expand.specs.Reading.{Reading}
@@ -18,9 +18,9 @@ use Rattle.tib_hunt.specs.RoundLaw.{IsKept}
 use Rattle.tib_hunt.specs.Shelved.{all_on, with_keys, NameOn, ShelvesHaveMore, IsShelvedRow, edges_of_rows, IsWorked, IsTooMuch, IsUnderway as Underway, IsKnownRow, AreWorked}
 use Rattle.tib_hunt.specs.Held.{IsBetween as Between, edges_so_far as all_edges}
 use Rattle.tib_expand.specs.declared.error.HuntError.{HuntError}
-use Rattle.tib_crew.specs.declared.row.Row.{Row as ItemRow}
+use Rattle.tib_workers.specs.declared.row.Row.{Row as ItemRow}
 use Rattle.tib_hunt.specs.Known.{NameEnds}
-use Rattle.tib_hunt.specs.declared.known.Ruled.{Ruled}
+use Rattle.tib_hunt.specs.declared.lookups.Ruled.{Ruled}
 use Rattle.tib_expand.proofs.Reaching.{IfTooMany-weaker, IsHunt, beyond, beyond_more, in_reached}
 use Rattle.tib_hunt.proofs.Holding.{leads_on}
 use Rattle.tib_table.proofs.Inserted.{any_has, not_any}
@@ -30,7 +30,7 @@ use Rattle.tib_hunt.proofs.Runs.{has_snoc, has_last, begins, kept_after, kept_ke
 use Rattle.tib_lex.proofs.Members.{has_either, has_left, has_right}
 use Rattle.tib_lex.proofs.Lists.{total_append}
 
-module _ {P K O E : Type 0} (of : P → Operation K O E) (problem : P) (order : List K) (first : ℕ)
+module _ {P K O E : Type 0} (of : P → Exploration K O E) (problem : P) (order : List K) (first : ℕ)
     (eq : K → K → Bool) (same : (x y : K) → eq x y ≡ true → x ≡ y) (self : (x : K) → eq x x ≡ true) (shelf_of : K → ℕ) (low : (k : K) → shelf_of k < 16)
     (s : Core K) (kept : IsKept shelf_of first (length order - first) (IsEndAt (of problem) order) s) (item : ℕ) (drawn : IsItem first s.drawn item)
     (ends : List K) (are : (k : K) → Has ends k ↔ IsEndAt (of problem) order item k) where
@@ -81,7 +81,7 @@ distinct_all shelf_of (ks ∷ kss) j once own =
     distinct_both ks (all_on kss) (once 0) (distinct_all shelf_of kss (j + 1) (λ i. once (suc i)) (λ i k h. own (suc i) k h ∙ (let e : j + suc i ≡ (j + 1) + i = omega arith in e)))
     (λ k h m. let r = all_somewhere kss k m in let a = own 0 k h in let b = own (suc r.0) k r.1 in absurd (omega arith))
 
-module _ {K O E R T : Type 0} {p : Operation K O E} {admits : K → Type 0} {reading : Reading K E R T}
+module _ {K O E R T : Type 0} {p : Exploration K O E} {admits : K → Type 0} {reading : Reading K E R T}
     {cmp : K → K → Ordering} {entries : K → ℕ} {eq : K → K → Bool} (hunt : IsHunt p admits reading cmp entries eq) (shelf_of : K → ℕ) (low : (k : K) → shelf_of k < 16) where
   abbrev IsUnderway : List K → ℕ → ℕ → Core K → List (ItemRow (Ruled R)) → ℕ → ℕ → ℕ → Type 0
   IsUnderway = Underway p reading eq shelf_of

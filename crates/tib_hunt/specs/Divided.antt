@@ -1,12 +1,12 @@
 -- Rows whose rules are settled in pieces.
 use Rattle.std.specs.Prelude.{ℕ, ◌+◌, List, length, map}
 use Rattle.tib_lex.specs.Lists.{Each}
-use Rattle.tib_crew.specs.declared.row.Row.{Row as ItemRow}
+use Rattle.tib_workers.specs.declared.row.Row.{Row as ItemRow}
 use Rattle.tib_hunt.specs.Known.{AreOn}
 use Rattle.tib_expand.specs.Reading.{Reading}
 use Rattle.tib_hunt.specs.Rows.{IsRowBelow, ReadAs, StayBelow}
 use Rattle.tib_hunt.specs.Shelved.{placed_row}
-use Rattle.tib_hunt.specs.declared.known.Ruled.{Ruled}
+use Rattle.tib_hunt.specs.declared.lookups.Ruled.{Ruled}
 
 module _ {K E R T : Type 0} (reading : Reading K E R T) (positions : List (List ℕ)) (first : ℕ) (moved : List ℕ) where
   -- each end of the rows has a position, and the rules are over places that were moved or are below

@@ -2,7 +2,7 @@
 use Rattle.std.specs.Prelude.{◌≡◌, ℕ, ◌+◌, ◌<◌, ◌≤◌, List, [], ◌++◌, length, map, slice_index_or}
 use Rattle.tib_lex.specs.Lists.{Has, Each, Distinct, total}
 use Rattle.tib_expand.specs.EdgeLists.{IsEnd}
-use Rattle.tib_expand.specs.Reached.{Operation, IsNew, AfterRounds, IsReached, AreEdges}
+use Rattle.tib_expand.specs.Reached.{Exploration, IsNew, AfterRounds, IsReached, AreEdges}
 use Rattle.tib_expand.specs.Reading.{Reading, AreBelow}
 use Rattle.tib_hunt.specs.Rows.{NumberedRow, read_rows, IsRowBelow}
 
@@ -10,7 +10,7 @@ use Rattle.tib_hunt.specs.Rows.{NumberedRow, read_rows, IsRowBelow}
 abbrev pub at : {K : Type 0} → K → List K → ℕ → K
 at d keys n = slice_index_or keys n d
 
-module _ {K O E R T : Type 0} (p : Operation K O E) (admits : K → Type 0) (reading : Reading K E R T) where
+module _ {K O E R T : Type 0} (p : Exploration K O E) (admits : K → Type 0) (reading : Reading K E R T) where
   -- the edges of the settled rules, and then those of the rows
   abbrev pub edges_so_far : K → List K → List T → List (NumberedRow R) → List E
   edges_so_far d keys rules rows = map (reading.read_positions (at d keys)) rules ++ read_rows reading.read_places (at d keys) rows

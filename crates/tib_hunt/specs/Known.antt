@@ -5,9 +5,9 @@ use Rattle.std.proofs.Common.{◌∙◌, inl, inr, subst, sym}
 use Rattle.tib_lex.specs.Lists.{Has, Each}
 use Rattle.tib_table.specs.Known.{Names}
 use Rattle.tib_table.specs.declared.number.Number.{Number}
-use Rattle.tib_crew.specs.Rows.{NameOn}
-use Rattle.tib_hunt.specs.declared.known.EndAt.{EndAt}
-use Rattle.tib_hunt.specs.declared.known.EndAt.TheVariants.{Position, Numbered}
+use Rattle.tib_workers.specs.Rows.{NameOn}
+use Rattle.tib_hunt.specs.declared.lookups.EndAt.{EndAt}
+use Rattle.tib_hunt.specs.declared.lookups.EndAt.TheVariants.{Position, Numbered}
 
 module _ {K : Type 0} (order : List K) where
   -- each end is at its position of the order, or is the next of those that the order lacks

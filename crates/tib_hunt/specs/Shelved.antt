@@ -3,14 +3,14 @@
 use Rattle.std.specs.Prelude.{◌≡◌, ◌↔◌, ◌⊎◌, ℕ, ◌+◌, ◌-◌, ◌<◌, ◌≤◌, Bool, None, List, [], ◌∷◌, ◌++◌, length, map}
 use Rattle.tib_lex.specs.Lists.{Has, Each, Distinct, Along, total}
 use Rattle.tib_table.specs.Known.{on}
-use Rattle.tib_crew.specs.declared.row.Row.{Row as ItemRow}
-pub use Rattle.tib_crew.specs.Rows.{NameOn}
+use Rattle.tib_workers.specs.declared.row.Row.{Row as ItemRow}
+pub use Rattle.tib_workers.specs.Rows.{NameOn}
 pub use Rattle.tib_table.specs.Numbered.{all_on}
 use Rattle.tib_expand.specs.EdgeLists.{AreListed, Exceeds, IsEnd, IsWithin, key_at}
-use Rattle.tib_expand.specs.Reached.{Operation, AreEdges}
+use Rattle.tib_expand.specs.Reached.{Exploration, AreEdges}
 use Rattle.tib_expand.specs.Reading.{Reading}
 use Rattle.tib_hunt.specs.Known.{NameEnds, end_positions}
-use Rattle.tib_hunt.specs.declared.known.Ruled.{Ruled}
+use Rattle.tib_hunt.specs.declared.lookups.Ruled.{Ruled}
 use Rattle.tib_hunt.specs.Rows.{NumberedRow}
 use Rattle.tib_hunt.specs.RoundModel.{Core, with_key, with_filed}
 use Rattle.tib_hunt.specs.RoundLaw.{IsKept}
@@ -48,7 +48,7 @@ module _ {K : Type 0} where
 abbrev pub placed_row : {R : Type 0} → List (List ℕ) → ItemRow (Ruled R) → NumberedRow R
 placed_row positions row = record { rules = row.rules.rules.items; ends = end_positions positions row.rules.at row.ends.items }
 
-module _ {K O E R T : Type 0} (p : Operation K O E) (reading : Reading K E R T) (eq : K → K → Bool) (shelf_of : K → ℕ) where
+module _ {K O E R T : Type 0} (p : Exploration K O E) (reading : Reading K E R T) (eq : K → K → Bool) (shelf_of : K → ℕ) where
   -- An item was expanded: its ends are numbered on their shelves, its row is the last, and it is
   -- filed.
   pub record IsWorked (order : List K) (item : ℕ) (s : Core K) (rows : List (ItemRow (Ruled R))) (parts : ℕ) (t : Core K) (rows' : List (ItemRow (Ruled R))) (parts' limit : ℕ) : Type 0 where
@@ -82,7 +82,7 @@ module _ {K O E R T : Type 0} (p : Operation K O E) (reading : Reading K E R T) 
     pub counted : (d : K) → parts ≡ was + total p.edge_parts (edges_of_rows reading.read_places d order sights rows)
     pub within : parts ≤ limit
 
-module _ {K O E R T : Type 0} (p : Operation K O E) (reading : Reading K E R T) (shelf_of : K → ℕ) where
+module _ {K O E R T : Type 0} (p : Exploration K O E) (reading : Reading K E R T) (shelf_of : K → ℕ) where
   -- What a round made of an order whose positions below the first one were expanded before. Each
   -- key on the shelves is an end of an item and is there once, each end of an item is in the order
   -- or on the shelves, and the rows have the edges of all items. `was` are the parts of all that

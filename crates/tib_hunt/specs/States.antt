@@ -2,7 +2,7 @@
 use Rattle.std.specs.Prelude.{◌≡◌, ℕ, Bool, List, [], ◌∷◌, ◌++◌, length, map}
 use Rattle.std.specs.declared.cmp.Ordering.{Ordering}
 use Rattle.tib_lex.specs.Lists.{Each, Along}
-use Rattle.tib_expand.specs.Reached.{Operation}
+use Rattle.tib_expand.specs.Reached.{Exploration}
 use Rattle.tib_expand.specs.Reading.{Reading}
 use Rattle.tib_hunt.specs.Numbered.{Name, IsInOrder}
 use Rattle.tib_hunt.specs.Rows.{NumberedRow, ReadAs, StayBelow}
@@ -10,12 +10,12 @@ use Rattle.tib_hunt.specs.Held.{IsBetween, IsWithinRound}
 use Rattle.tib_hunt.specs.Known.{AreOn}
 use Rattle.tib_hunt.specs.Shelved.{placed_row, IsWorked, AreWorked, AreApart}
 use Rattle.tib_hunt.specs.RoundModel.{Core}
-use Rattle.tib_hunt.specs.declared.hunting.HuntState.{HuntState}
-use Rattle.tib_hunt.specs.declared.hunting.TakenIn.{TakenIn}
+use Rattle.tib_hunt.specs.declared.state.HuntState.{HuntState}
+use Rattle.tib_hunt.specs.declared.state.TakenIn.{TakenIn}
 use Rattle.tib_expand.specs.declared.place.Edges.{Edges}
 use Rattle.tib_hunt.specs.declared.row.Row.{Row}
-use Rattle.tib_hunt.specs.declared.working.Work.{Work}
-use Rattle.tib_hunt.specs.declared.working.Worked.{Worked}
+use Rattle.tib_hunt.specs.declared.shelved_round.Work.{Work}
+use Rattle.tib_hunt.specs.declared.shelved_round.Worked.{Worked}
 
 module _ {X K R T O E : Type 0} where
   -- the edges are the last row, in which each of their ends has its number
@@ -31,7 +31,7 @@ module _ {X K R T O E : Type 0} where
       × ReadAs reading first moved old.rules.items rows new.rules.items
       × StayBelow reading first moved old.rules.items new.rules.items
 
-module _ {X K O E R T : Type 0} (p : Operation K O E) (admits : K → Type 0) (reading : Reading K E R T) where
+module _ {X K O E R T : Type 0} (p : Exploration K O E) (admits : K → Type 0) (reading : Reading K E R T) where
   -- between two rounds, where the positions below the first one are expanded
   abbrev pub IsBetweenRounds : ℕ → ℕ → HuntState X K R T O E → Type 0
   IsBetweenRounds first limit state = IsBetween p admits reading first state.keys.keys state.rules.items state.parts limit
@@ -61,12 +61,12 @@ module _ {K R : Type 0} where
   abbrev pub rows_in : TakenIn K R → List (NumberedRow R)
   rows_in taken = map (placed_row (map (λ v. v.items) taken.positions.items)) taken.rows.items
 
-module _ {K O E R T : Type 0} (p : Operation K O E) (reading : Reading K E R T) (eq : K → K → Bool) (shelf_of : K → ℕ) where
+module _ {K O E R T : Type 0} (p : Exploration K O E) (reading : Reading K E R T) (eq : K → K → Bool) (shelf_of : K → ℕ) where
   -- an item was expanded and filed
   abbrev pub WorksItem : List K → ℕ → ℕ → Core K → Work R → Core K → Work R → Type 0
   WorksItem order item limit s old t new = IsWorked p reading eq shelf_of order item s old.rows.items old.parts t new.rows.items new.parts limit
 
-module _ {K O E R T : Type 0} (p : Operation K O E) (reading : Reading K E R T) (shelf_of : K → ℕ) where
+module _ {K O E R T : Type 0} (p : Exploration K O E) (reading : Reading K E R T) (shelf_of : K → ℕ) where
   -- each item of a round was expanded
   abbrev pub WorksRound : List K → ℕ → ℕ → ℕ → Worked K R → Type 0
   WorksRound order first was limit worked = AreWorked p reading shelf_of order first (shelves_of worked) worked.rows.items was worked.parts limit

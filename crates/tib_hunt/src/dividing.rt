@@ -10,12 +10,12 @@ ghost use Rattle.tib_hunt.specs.Known.{AreOn};
 ghost use Rattle.tib_hunt.specs.Shelved.{placed_row};
 
 use tib_expand::Expand;
-use crate::known::Ruled;
+use crate::lookups::Ruled;
 use crate::placing::place_rows;
 use std::alloc::{AllocError, Global};
 use std::mem::replace;
 use std::thread::{Threads, join};
-use tib_crew::Row;
+use tib_workers::Row;
 
 // The fewest rows that are worth a thread of their own.
 const LEAST_PIECE: usize = 1024;

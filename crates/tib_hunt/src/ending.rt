@@ -10,9 +10,9 @@ ghost use Rattle.tib_hunt.specs.States.{AreSettled, IsBetweenRounds, WorksRound,
 
 use crate::dividing::place_together;
 use tib_expand::Expand;
-use crate::hunting::{HuntState, TakenIn};
+use crate::state::{HuntState, TakenIn};
 use crate::placing::place_rows;
-use crate::working::Worked;
+use crate::shelved_round::Worked;
 use std::alloc::{AllocError, Global};
 use std::thread::Threads;
 use tib_expand::HuntError;

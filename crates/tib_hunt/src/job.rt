@@ -4,12 +4,12 @@ ghost use Rattle.std.specs.Prelude.{◌≤◌, ◌<◌, ◌^◌, length};
 
 use tib_expand::Expand;
 use tib_expand::Gate;
-use crate::known::{Ruled, split_ends};
+use crate::lookups::{Ruled, split_ends};
 use tib_expand::ExpandError;
 use indexmap::IndexSet;
 use std::alloc::Global;
 use std::collections::LinkedList;
-use tib_crew::{Performed, Task, Unperformed};
+use tib_workers::{Performed, Task, Unperformed};
 use tib_table::Problem;
 
 /// The items of a round, each with the edges of its position, and the gate that is called before an

@@ -1,30 +1,30 @@
 //! What an operation hunts, and how. Keys are reached from seeds along edges, in rounds. The core
 //! of a round is a machine over events. Every complete run of it leaves the same keys and the same
 //! edges, whatever the order of its events. One worker finds the reached set, or several do; they
-//! find the same set whatever the order of their steps. The crate uses `tib_crew` and `tib_table`.
+//! find the same set whatever the order of their steps. The crate uses `tib_workers` and `tib_table`.
 #![tactic(auto)]
 
 mod dividing;
 mod ending;
 mod event;
-mod few;
-mod hunting;
+mod listed_round;
+mod state;
 mod itemized;
 mod job;
-mod known;
+mod lookups;
 pub mod laws;
 mod placing;
-mod reach;
+mod hunts;
 mod round;
 mod round_of;
 mod row;
 mod shelving;
-mod together;
-mod working;
-mod works;
+mod worker_round;
+mod shelved_round;
+mod rounds;
 
 pub use event::{Answer, Event};
 pub use itemized::Itemized;
-pub use reach::{hunt, hunt_alone};
+pub use hunts::{hunt, hunt_alone};
 pub use round::Round;
 pub use round_of::RoundOf;

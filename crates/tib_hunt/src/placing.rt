@@ -9,10 +9,10 @@ ghost use Rattle.tib_hunt.specs.Known.{position_on, IsOn, positions_at, HavePosi
 ghost use Rattle.tib_hunt.specs.Shelved.{placed_row};
 
 use tib_expand::Expand;
-use crate::known::{EndAt, Ruled};
+use crate::lookups::{EndAt, Ruled};
 use crate::row::{move_end, settle_rules};
 use std::alloc::{AllocError, Global};
-use tib_crew::Row;
+use tib_workers::Row;
 use tib_table::Number;
 
 // The position of a number on a shelf.

@@ -8,7 +8,7 @@ use std::alloc::Global;
 use std::sync::Wait;
 use std::sync::atomic::{AtomicU64, Ordering};
 use std::thread::{Threads, join};
-use tib_crew::{Gathered, Items, Performed, Seat, Task, Unperformed, perform_all};
+use tib_workers::{Gathered, Items, Performed, Seat, Task, Unperformed, perform_all};
 use tib_table::Problem;
 
 /// How often a worker looks for another before it gives up.

@@ -46,7 +46,7 @@ struct Sevens;
 impl Expand for Sevens {
     ghost use Rattle.std.specs.Prelude.{◌≡◌, [], ◌∷◌, refl};
     ghost use Rattle.tib_expand.specs.Keys.{key_parts};
-    ghost use Rattle.tib_expand.specs.Reached.{operation};
+    ghost use Rattle.tib_expand.specs.Reached.{exploration};
 
     type Key = Node;
 
@@ -58,7 +58,7 @@ impl Expand for Sevens {
 
     type Edge = Node;
 
-    ghost hunted = { λ _. operation ⟦<Node as Ord>⟧.cmp (λ k. k ≡ record { number = 5 })
+    ghost hunted = { λ _. exploration ⟦<Node as Ord>⟧.cmp (λ k. k ≡ record { number = 5 })
         (λ _ _. ⊥) (λ _ _ o e. (o ≡ 0) × (e ≡ record { number = 7 })) (λ e. e ∷ [])
         (key_parts ⟦<Node as TableKey>⟧.entries_of) (λ _. 1) };
 
@@ -245,7 +245,7 @@ struct Fans;
 impl Expand for Fans {
     ghost use Rattle.std.specs.Prelude.{◌≡◌, ◌<◌, ◌+◌, ◌-◌, [], ◌∷◌, refl};
     ghost use Rattle.tib_expand.specs.Keys.{key_parts};
-    ghost use Rattle.tib_expand.specs.Reached.{operation};
+    ghost use Rattle.tib_expand.specs.Reached.{exploration};
 
     type Key = Node;
 
@@ -257,7 +257,7 @@ impl Expand for Fans {
 
     type Edge = (Node, Node);
 
-    ghost hunted = { λ _. operation ⟦<Node as Ord>⟧.cmp (λ k. k ≡ record { number = 1 })
+    ghost hunted = { λ _. exploration ⟦<Node as Ord>⟧.cmp (λ k. k ≡ record { number = 1 })
         (λ _ _. ⊥) (λ _ n o e. (n < 4) × (o ≡ 0) × (e ≡ (record { number = 15 + n }, record { number = 18 - n }))) (λ e. e.0 ∷ e.1 ∷ [])
         (key_parts ⟦<Node as TableKey>⟧.entries_of) (λ _. 1) };
 

@@ -29,7 +29,7 @@ struct Strands {
 impl Expand for Strands {
     ghost use Rattle.std.specs.Prelude.{◌≡◌, ◌<◌, ◌+◌, ◌*◌, [], ◌∷◌, refl};
     ghost use Rattle.tib_expand.specs.Keys.{key_parts};
-    ghost use Rattle.tib_expand.specs.Reached.{operation};
+    ghost use Rattle.tib_expand.specs.Reached.{exploration};
 
     type Key = Node;
 
@@ -41,7 +41,7 @@ impl Expand for Strands {
 
     type Edge = (Node, Node);
 
-    ghost hunted = { λ p. operation ⟦<Node as Ord>⟧.cmp (λ k. k ≡ record { number = 0 })
+    ghost hunted = { λ p. exploration ⟦<Node as Ord>⟧.cmp (λ k. k ≡ record { number = 0 })
         (λ _ _. ⊥) (λ _ n o e. (n < p.length) × (o ≡ 0)
         × (e ≡ (record { number = p.times * n + 1 }, record { number = p.times * n + 2 }))) (λ e. e.0 ∷ e.1 ∷ [])
         (key_parts ⟦<Node as TableKey>⟧.entries_of) (λ _. 1) };

@@ -183,7 +183,7 @@ impl<'a> Expand for Meeting<'a> {
     ghost use Rattle.std.specs.Prelude.{refl};
     ghost use Rattle.tib_lex.specs.Lists.{Has};
     ghost use Rattle.tib_expand.specs.Keys.{key_parts};
-    ghost use Rattle.tib_expand.specs.Reached.{operation};
+    ghost use Rattle.tib_expand.specs.Reached.{exploration};
 
     type Key = Flagged<'a>;
 
@@ -195,7 +195,7 @@ impl<'a> Expand for Meeting<'a> {
 
     type Edge = u32;
 
-    ghost hunted = { λ _. operation nat_cmp (Has (0 ∷ 1 ∷ [])) (λ _ _. ⊥) (λ _ n o e. (o ≡ 0) × (e ≡ n))
+    ghost hunted = { λ _. exploration nat_cmp (Has (0 ∷ 1 ∷ [])) (λ _ _. ⊥) (λ _ n o e. (o ≡ 0) × (e ≡ n))
         (λ e. if nat_eq e 0 then 2 ∷ [] else []) (key_parts (λ _. 0)) (λ _. 1) };
 
     ghost admits = { λ _ _. Unit {0} };

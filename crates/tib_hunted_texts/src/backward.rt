@@ -31,7 +31,7 @@ use tib_tree::Labels;
 
 // The canonical form of the keys that a hunt returned, of a linear and nondeleting transducer and a
 // grammar.
-fn canonical_of_preimage<S: Semiring + Drop>(
+fn canonical_of_inverse_image<S: Semiring + Drop>(
     alloc: Global,
     transducer: &Transducer<S>,
     grammar: &Normal<S>,
@@ -82,7 +82,7 @@ fn canonical_of_preimage<S: Semiring + Drop>(
 /// The canonical grammar of the inputs of a linear and nondeleting transducer. `TooMany` only where
 /// a normal form or the reached set has more parts than the limit, otherwise `OutOfMemory`. The
 /// time is that of the normal form and of the edges of the keys that are reached.
-pub fn preimage_of<S: Semiring + Drop, G: Gate>(
+pub fn inverse_image_of<S: Semiring + Drop, G: Gate>(
     alloc: Global,
     transducer: &Transducer<S>,
     grammar: &Grammar<S>,
@@ -109,13 +109,13 @@ pub fn preimage_of<S: Semiring + Drop, G: Gate>(
     };
     form.grammar();
     let hunted = apply_backward::<S, G>(alloc, transducer, &form, limit, gate);
-    canonical_of_preimage::<S>(alloc, transducer, &form, labels, limit, hunted)
+    canonical_of_inverse_image::<S>(alloc, transducer, &form, labels, limit, hunted)
 }
 
-/// What `preimage_of` returns, with the keys hunted by this number of workers, 1 to 16, whatever
+/// What `inverse_image_of` returns, with the keys hunted by this number of workers, 1 to 16, whatever
 /// the order of their steps. It may wait forever, as the hunt by several workers. Errors are those
-/// of `preimage_of`.
-pub fn preimage_of_together<S: Semiring + Sync + Drop, R: Threads + Wait + Sync, G: Gate + Sync>(
+/// of `inverse_image_of`.
+pub fn inverse_image_of_together<S: Semiring + Sync + Drop, R: Threads + Wait + Sync, G: Gate + Sync>(
     rt: &R,
     alloc: Global,
     transducer: &Transducer<S>,
@@ -148,5 +148,5 @@ pub fn preimage_of_together<S: Semiring + Sync + Drop, R: Threads + Wait + Sync,
     let hunted = apply_backward_together::<S, R, G>(
         rt, alloc, transducer, &form, workers, limit, gate,
     );
-    canonical_of_preimage::<S>(alloc, transducer, &form, labels, limit, hunted)
+    canonical_of_inverse_image::<S>(alloc, transducer, &form, labels, limit, hunted)
 }

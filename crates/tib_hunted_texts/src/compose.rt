@@ -2,7 +2,7 @@
 ghost use Rattle.std.specs.Prelude.{◌≤◌, length, IfErr, IfOk};
 ghost use Rattle.tib_transducer.specs.Outside.{AllMeet};
 ghost use Rattle.tib_expand.specs.Reached.{IsBeyond};
-ghost use Rattle.tib_keyed.specs.Composition.{composition};
+ghost use Rattle.tib_key_edges.specs.Composition.{composition};
 ghost use Rattle.tib_compose.specs.Composed.{AreOverOrder, HasPartsOf, IsComposeFault, IsReachedBy};
 ghost use Rattle.tib_canon.specs.TransducerKeys.{AreMovesOver};
 ghost use Rattle.tib_operations.specs.Classes.{demanded_of, IsClassFault};
@@ -18,7 +18,7 @@ use tib_compose::ComposeError;
 use tib_reached::{compose, compose_together};
 use tib_cost::Semiring;
 use tib_expand::{Found, Gate};
-use tib_keyed::StatePair;
+use tib_key_edges::StatePair;
 use tib_transducer::{Transducer, TransducerRule};
 use tib_tree::Labels;
 

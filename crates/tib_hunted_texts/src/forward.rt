@@ -31,7 +31,7 @@ use tib_transducer::Transducer;
 use tib_tree::Labels;
 
 // The canonical form of the keys that a hunt returned, of a grammar and a linear transducer.
-fn canonical_of_image<S: Semiring + Drop>(
+fn canonical_of_forward_image<S: Semiring + Drop>(
     alloc: Global,
     grammar: &Normal<S>,
     transducer: &Transducer<S>,
@@ -86,7 +86,7 @@ fn canonical_of_image<S: Semiring + Drop>(
 /// The canonical grammar of the outputs of a linear transducer. `TooMany` only where a normal form
 /// or the reached set has more parts than the limit, otherwise `OutOfMemory`. The time is that of
 /// the normal form and of the edges of the keys that are reached.
-pub fn image_of<S: Semiring + Drop, G: Gate>(
+pub fn forward_image_of<S: Semiring + Drop, G: Gate>(
     alloc: Global,
     grammar: &Grammar<S>,
     transducer: &Transducer<S>,
@@ -113,13 +113,13 @@ pub fn image_of<S: Semiring + Drop, G: Gate>(
     };
     form.grammar();
     let hunted = apply_forward::<S, G>(alloc, &form, transducer, limit, gate);
-    canonical_of_image::<S>(alloc, &form, transducer, labels, limit, hunted)
+    canonical_of_forward_image::<S>(alloc, &form, transducer, labels, limit, hunted)
 }
 
-/// What `image_of` returns, with the keys hunted by this number of workers, 1 to 16, whatever the
+/// What `forward_image_of` returns, with the keys hunted by this number of workers, 1 to 16, whatever the
 /// order of their steps. It may wait forever, as the hunt by several workers. Errors are those of
-/// `image_of`.
-pub fn image_of_together<S: Semiring + Sync + Drop, R: Threads + Wait + Sync, G: Gate + Sync>(
+/// `forward_image_of`.
+pub fn forward_image_of_together<S: Semiring + Sync + Drop, R: Threads + Wait + Sync, G: Gate + Sync>(
     rt: &R,
     alloc: Global,
     grammar: &Grammar<S>,
@@ -152,5 +152,5 @@ pub fn image_of_together<S: Semiring + Sync + Drop, R: Threads + Wait + Sync, G:
     let hunted = apply_forward_together::<S, R, G>(
         rt, alloc, &form, transducer, workers, limit, gate,
     );
-    canonical_of_image::<S>(alloc, &form, transducer, labels, limit, hunted)
+    canonical_of_forward_image::<S>(alloc, &form, transducer, labels, limit, hunted)
 }

@@ -25,7 +25,7 @@ use tib_grammar_file::printable_is_labelled;
 use tib_expand::{Found, Gate, HuntError};
 use tib_intersect::laws::{order_is_free, pairs_mean};
 use tib_reached::{intersect, intersect_together};
-use tib_keyed::StatePair;
+use tib_key_edges::StatePair;
 use tib_normal::Normal;
 use tib_tree::Labels;
 

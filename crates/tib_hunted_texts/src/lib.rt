@@ -13,12 +13,12 @@ mod image;
 mod intersect;
 mod parse;
 
-pub use backward::{preimage_of, preimage_of_together};
+pub use backward::{inverse_image_of, inverse_image_of_together};
 pub use compare::{comparison_of, comparison_of_together};
 pub use compose::{composition_of, composition_of_together};
 pub use demo::{demo_of, demo_of_together, demo_text, summary_of, summary_of_together};
 pub use determinize::{determinization_of, determinization_of_together};
-pub use forward::{image_of, image_of_together};
+pub use forward::{forward_image_of, forward_image_of_together};
 pub use image::{outputs_of, outputs_of_together};
 pub use intersect::{intersection_of, intersection_of_together};
 pub use parse::{parse_of, parse_of_together};

@@ -7,8 +7,8 @@ use Rattle.tib_grammar.specs.GrammarOf.{named_rule}
 use Rattle.tib_grammar.specs.declared.Rule.{Rule}
 use Rattle.tib_expand.specs.Reached.{IsReachedSet, IsBeyond, parts_of}
 use Rattle.tib_expand.specs.Keys.{key_parts}
-use Rattle.tib_keyed.specs.Ends.{key_at}
-use Rattle.tib_keyed.proofs.Limits.{each_counts}
+use Rattle.tib_key_edges.specs.Ends.{key_at}
+use Rattle.tib_key_edges.proofs.Limits.{each_counts}
 use Rattle.tib_transducer.specs.TransducerOf.{TransducerOf}
 use Rattle.tib_image.specs.Image.{key_entries, edge_parts, image_of}
 

@@ -5,7 +5,7 @@ use Rattle.std.specs.declared.cmp.Ordering.{Ordering}
 use Rattle.tib_lex.specs.Lists.{Has}
 use Rattle.tib_lex.proofs.Members.{has_at, has_either}
 use Rattle.tib_expand.specs.Reached.{AfterRounds}
-use Rattle.tib_keyed.specs.Keyed.{keyed}
+use Rattle.tib_key_edges.specs.Keyed.{keyed}
 
 -- what holds of the start, and of the ends of the edges of each key of which it holds, holds of
 -- each key of the order

@@ -18,7 +18,7 @@ use Rattle.tib_lex.proofs.Numbers.{nat_eq_cases}
 use Rattle.tib_lex.proofs.Booleans.{bool_cases}
 use Rattle.tib_strings.proofs.CutLists.{stands_is, is_standing, cut_listed, listed_cut, cuts_once}
 use Rattle.tib_expand.proofs.Members.{distinct_append}
-use Rattle.tib_keyed.proofs.Tagged.{has_tagged, tagged_has, tagged_once}
+use Rattle.tib_key_edges.proofs.Tagged.{has_tagged, tagged_has, tagged_once}
 
 -- the label at the root of a left-hand side that fits
 pub root_of : (labels : List ℕ) (e : ℕ) (s : Symbol ℕ Variable) → admits_root labels e s ≡ true → (root : ℕ) × (s ≡ label root) × Admits labels e root

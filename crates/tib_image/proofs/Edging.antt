@@ -20,12 +20,12 @@ use Rattle.tib_image.specs.Nodes.{subtree, Match, nodes_of}
 use Rattle.tib_image.specs.Image.{pair_key, IsImageEdge}
 use Rattle.tib_image.specs.Shapes.{has_shape, positions_with}
 use Rattle.tib_image.specs.Walk.{walk}
-use Rattle.tib_keyed.specs.Listing.{IsAdded}
-use Rattle.tib_keyed.proofs.Listed.{listed_passed, listed_added, overruns_next}
+use Rattle.tib_key_edges.specs.Listing.{IsAdded}
+use Rattle.tib_key_edges.proofs.Listed.{listed_passed, listed_added, overruns_next}
 use Rattle.tib_image.specs.Listing.{Listing, ListsOrigin, OriginOverruns}
 use Rattle.tib_image.proofs.Matching.{nodes_many}
 use Rattle.tib_image.proofs.Walking.{match_many, found_match, found_nodes, no_match}
-use Rattle.tib_keyed.proofs.Places.{places_once, place_is, is_place}
+use Rattle.tib_key_edges.proofs.Places.{places_once, place_is, is_place}
 
 each_mapped : {A : Type 0} (Q : ℕ → Type 0) (f : A → ℕ) (xs : List A) → Each Q (map f xs) → Each (λ x. Q (f x)) xs
 each_mapped Q f [] h = tt

@@ -4,8 +4,8 @@ use Rattle.std.proofs.Common.{ap, sym, ◌∙◌, subst, get_or}
 use Rattle.tib_lex.specs.Lists.{Has, Distinct}
 use Rattle.tib_lex.proofs.Places.{not_before, take_next, take_whole}
 use Rattle.tib_grammar.specs.declared.Rule.{Rule}
-use Rattle.tib_keyed.specs.Ends.{key_at as key_of}
-use Rattle.tib_keyed.specs.Listing.{IsListed, Overruns, AreListedFrom}
+use Rattle.tib_key_edges.specs.Ends.{key_at as key_of}
+use Rattle.tib_key_edges.specs.Listing.{IsListed, Overruns, AreListedFrom}
 use Rattle.tib_image.specs.Listing.{Listing, ListsOrigin, OriginOverruns}
 
 module _ (Gives : ℕ → Rule (ℕ × ℕ) → Type 0) (key : ℕ × ℕ) (order : List (ℕ × ℕ)) (ps : List ℕ) (i m : ℕ) (below : i < length ps) (is : m ≡ get_or ps i 0) (once : Distinct ps) where

@@ -12,7 +12,7 @@ use Rattle.tib_grammar.specs.declared.Rule.{Rule}
 use Rattle.tib_grammar.proofs.Sides.{holes-relabel, fill-relabel}
 use Rattle.tib_cost.proofs.Least.{IsLeast-same}
 use Rattle.tib_lex.proofs.Lists.{map_twice}
-use Rattle.tib_keyed.specs.Ends.{key_at}
+use Rattle.tib_key_edges.specs.Ends.{key_at}
 use Rattle.tib_transducer.specs.Rules.{transducer_rule, variables_of, states_in, variables_in}
 use Rattle.tib_transducer.specs.Range.{AreShaped}
 use Rattle.tib_transducer.specs.Run.{AreTransducerRuns, Reads, outputs, transducer_cost, pick}

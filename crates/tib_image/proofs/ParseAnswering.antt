@@ -6,7 +6,7 @@ use Rattle.tib_grammar.specs.GrammarOf.{named_rule}
 use Rattle.tib_grammar.specs.declared.Rule.{Rule}
 use Rattle.tib_expand.specs.Reached.{IsReachedSet, IsBeyond, IfTooMany, parts_of, HuntError, TooMany as OfParts, OutOfMemory as OfHuntMemory}
 use Rattle.tib_expand.specs.Keys.{key_parts}
-use Rattle.tib_keyed.proofs.Limits.{each_counts}
+use Rattle.tib_key_edges.proofs.Limits.{each_counts}
 use Rattle.tib_transducer.specs.declared.error.ClassError.{ClassError}
 use Rattle.tib_transducer.specs.declared.error.ClassError.TheVariants.{Class as OfRule, OutOfMemory as OfMemory}
 use Rattle.tib_strings.specs.Range.{AreLinear, AreNondeleting}

@@ -14,10 +14,10 @@ use Rattle.tib_grammar.proofs.Sides.{holes-relabel}
 use Rattle.tib_grammar.proofs.Positions.{all_ends-more}
 use Rattle.tib_transducer.specs.declared.Variable.{Variable}
 use Rattle.tib_strings.specs.declared.StringRule.{StringRule}
-use Rattle.tib_keyed.specs.SideRules.{Reads}
-use Rattle.tib_keyed.specs.Listing.{IsAdded, IsAlike}
-use Rattle.tib_keyed.proofs.MappedSides.{size_mapped}
-use Rattle.tib_keyed.proofs.Reading.{reads_longer, reads_new, nothing}
+use Rattle.tib_key_edges.specs.SideRules.{Reads}
+use Rattle.tib_key_edges.specs.Listing.{IsAdded, IsAlike}
+use Rattle.tib_key_edges.proofs.MappedSides.{size_mapped}
+use Rattle.tib_key_edges.proofs.Reading.{reads_longer, reads_new, nothing}
 use Rattle.tib_image.specs.ParseOperation.{edge_parts}
 use Rattle.tib_image.specs.ParseListing.{Listing, IsListed, Adds, Overruns, AreDone, cut_edge}
 

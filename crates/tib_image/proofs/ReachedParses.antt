@@ -14,7 +14,7 @@ use Rattle.tib_image.specs.Parsing.{first_key, key_at, IsParseEdge, IsParseGramm
 use Rattle.tib_image.specs.ParseOperation.{key_cmp, key_entries, edge_parts, parse}
 use Rattle.tib_image.specs.ParseLaws.{same_edge}
 use Rattle.tib_strings.specs.declared.StringRule.{StringRule}
-use Rattle.tib_keyed.proofs.KeyOrders.{order_begins, order_once, edges_below, one_set}
+use Rattle.tib_key_edges.proofs.KeyOrders.{order_begins, order_once, edges_below, one_set}
 
 pub key_total : IsTotalOrder key_cmp
 key_total =

@@ -15,8 +15,8 @@ use Rattle.tib_grammar.specs.GrammarOf.{named_rule}
 use Rattle.tib_grammar.specs.declared.Rule.{Rule}
 use Rattle.tib_expand.specs.Reached.{IsReachedSet}
 use Rattle.tib_expand.specs.Keys.{key_parts}
-use Rattle.tib_keyed.specs.Ends.{key_at}
-use Rattle.tib_keyed.proofs.KeyOrders.{order_begins, order_once, edges_below, one_set}
+use Rattle.tib_key_edges.specs.Ends.{key_at}
+use Rattle.tib_key_edges.proofs.KeyOrders.{order_begins, order_once, edges_below, one_set}
 use Rattle.tib_transducer.specs.declared.TransducerRule.{TransducerRule}
 use Rattle.tib_image.specs.Image.{key_cmp, key_entries, edge_parts, image_of, GivesEdge, IsImageEdge, IsImageGrammar}
 use Rattle.tib_image.specs.Laws.{same_edge}

@@ -7,10 +7,10 @@ use Rattle.tib_grammar.specs.Sides.{holes_of}
 use Rattle.tib_grammar.specs.declared.Rule.{Rule}
 use Rattle.tib_expand.specs.EdgeLists.{IsEnd, Exceeds, AreListed, Lists}
 use Rattle.tib_strings.specs.declared.StringRule.{StringRule}
-use Rattle.tib_keyed.specs.declared.side_rule.SideRule.{SideRule}
-use Rattle.tib_keyed.specs.SideRules.{places_of, read_places, Reads}
-use Rattle.tib_keyed.specs.Listing.{IsWithinBudget}
-use Rattle.tib_keyed.proofs.Reading.{reads_within, reads_all, both_ends}
+use Rattle.tib_key_edges.specs.declared.side_rule.SideRule.{SideRule}
+use Rattle.tib_key_edges.specs.SideRules.{places_of, read_places, Reads}
+use Rattle.tib_key_edges.specs.Listing.{IsWithinBudget}
+use Rattle.tib_key_edges.proofs.Reading.{reads_within, reads_all, both_ends}
 use Rattle.tib_transducer.specs.declared.Variable.{Variable}
 use Rattle.tib_image.specs.Parsing.{IsParseEdge}
 use Rattle.tib_image.specs.ParseOperation.{edge_parts}

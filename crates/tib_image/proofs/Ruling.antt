@@ -21,7 +21,7 @@ use Rattle.tib_strings.specs.Rules.{string_rule, no_rule, pairs_of}
 use Rattle.tib_strings.specs.Range.{IsShaped}
 use Rattle.tib_strings.specs.declared.Word.{Word as Token}
 use Rattle.tib_strings.specs.declared.StringRule.{StringRule}
-use Rattle.tib_keyed.proofs.MappedSides.{holes_within}
+use Rattle.tib_key_edges.proofs.MappedSides.{holes_within}
 use Rattle.tib_strings.specs.CutLists.{cuts_of}
 use Rattle.tib_image.proofs.EdgesListed.{root_of, root_is}
 use Rattle.tib_image.specs.Restrictions.{as_rule, restricted_labels}

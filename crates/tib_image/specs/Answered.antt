@@ -6,7 +6,7 @@ use Rattle.tib_grammar.specs.Range.{AreInRange}
 use Rattle.tib_grammar.specs.declared.Rule.{Rule}
 use Rattle.tib_expand.specs.Reached.{IsReachedSet, parts_of}
 use Rattle.tib_expand.specs.declared.found.Found.{Found}
-use Rattle.tib_keyed.specs.Ends.{key_at}
+use Rattle.tib_key_edges.specs.Ends.{key_at}
 use Rattle.tib_transducer.specs.declared.TransducerRule.{TransducerRule}
 use Rattle.tib_image.specs.Image.{image_of}
 

@@ -11,10 +11,10 @@ use Rattle.tib_grammar.specs.GrammarOf.{named_rule}
 use Rattle.tib_grammar.specs.Series.{IsSeries}
 use Rattle.tib_grammar.specs.declared.Rule.{Rule}
 use Rattle.tib_expand.specs.EdgeLists.{Lists}
-use Rattle.tib_expand.specs.Reached.{Operation, IsReachedSet}
+use Rattle.tib_expand.specs.Reached.{Exploration, IsReachedSet}
 use Rattle.tib_expand.specs.Keys.{key_parts}
-use Rattle.tib_keyed.specs.Keyed.{keyed}
-use Rattle.tib_keyed.specs.Ends.{key_at}
+use Rattle.tib_key_edges.specs.Keyed.{keyed}
+use Rattle.tib_key_edges.specs.Ends.{key_at}
 use Rattle.tib_transducer.specs.Rules.{transducer_rule}
 use Rattle.tib_transducer.specs.Range.{AreShaped}
 use Rattle.tib_transducer.specs.Series.{IsTransducerSeries}
@@ -54,7 +54,7 @@ edge_parts e = 1 + size e.right
 
 -- The image of a tree as what is hunted: from the key of the start and the root each key leads on
 -- along its edges.
-abbrev pub image_of : List (TransducerRule ℕ) → Tree ℕ → Operation (ℕ × ℕ) ℕ (Rule (ℕ × ℕ))
+abbrev pub image_of : List (TransducerRule ℕ) → Tree ℕ → Exploration (ℕ × ℕ) ℕ (Rule (ℕ × ℕ))
 image_of moves t = keyed key_cmp (0, 0) (IsImageEdge moves t) (λ e. holes_of e.right) (key_parts key_entries) edge_parts
 
 -- the edge of a position of the order, by that position and its origin

@@ -1,7 +1,7 @@
 -- What an index of rules holds.
 use Rattle.std.specs.Prelude.{◌≡◌, ℕ, List}
-use Rattle.tib_keyed.specs.Positions.{positions_of}
-use Rattle.tib_keyed.specs.declared.buckets.ShapeIndex.{ShapeIndex}
+use Rattle.tib_key_edges.specs.Positions.{positions_of}
+use Rattle.tib_key_edges.specs.declared.buckets.ShapeIndex.{ShapeIndex}
 use Rattle.tib_transducer.specs.declared.TransducerRule.{TransducerRule}
 use Rattle.tib_image.specs.Shapes.{positions_with}
 

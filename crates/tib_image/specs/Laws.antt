@@ -10,14 +10,14 @@ use Rattle.tib_grammar.specs.declared.Rule.{Rule}
 use Rattle.tib_grammar.proofs.Sides.{holes-relabel}
 use Rattle.tib_expand.specs.Lawful.{IsLawful}
 use Rattle.tib_expand.specs.Reading.{Reading}
-use Rattle.tib_keyed.specs.Ends.{key_at}
-use Rattle.tib_keyed.proofs.KeyOrders.{key_stays}
+use Rattle.tib_key_edges.specs.Ends.{key_at}
+use Rattle.tib_key_edges.proofs.KeyOrders.{key_stays}
 use Rattle.tib_transducer.specs.Rules.{transducer_rule}
 use Rattle.tib_transducer.specs.declared.Pair.{Pair}
 use Rattle.tib_transducer.specs.declared.TransducerRule.{TransducerRule}
-use Rattle.tib_keyed.specs.declared.side_rule.SideRule.{SideRule}
-use Rattle.tib_keyed.specs.SideRules.{side_reading}
-use Rattle.tib_keyed.specs.SideRuleLaws.{reads_places, reads_positions}
+use Rattle.tib_key_edges.specs.declared.side_rule.SideRule.{SideRule}
+use Rattle.tib_key_edges.specs.SideRules.{side_reading}
+use Rattle.tib_key_edges.specs.SideRuleLaws.{reads_places, reads_positions}
 use Rattle.tib_image.specs.Nodes.{subtree, nodes_of}
 use Rattle.tib_image.specs.Image.{pair_key, key_cmp, key_entries, image_of, IsImageEdge}
 use Rattle.tib_image.specs.Standing.{stands, nodes_within}

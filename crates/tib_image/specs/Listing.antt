@@ -2,8 +2,8 @@
 use Rattle.std.specs.Prelude.{ℕ}
 use Rattle.tib_grammar.specs.declared.Rule.{Rule}
 use Rattle.tib_transducer.specs.declared.Pair.{Pair}
-use Rattle.tib_keyed.specs.declared.side_listing.SideListing.{SideListing}
-use Rattle.tib_keyed.specs.Listing.{GetsOrigin, IsBeyond, HasEdges, AreBeyond}
+use Rattle.tib_key_edges.specs.declared.side_listing.SideListing.{SideListing}
+use Rattle.tib_key_edges.specs.Listing.{GetsOrigin, IsBeyond, HasEdges, AreBeyond}
 
 -- a list of edges to right-hand sides
 abbrev pub Listing : Type 0

@@ -6,15 +6,15 @@ use Rattle.tib_lex.proofs.Members.{each_has, has_at}
 use Rattle.tib_grammar.specs.declared.Rule.{Rule}
 use Rattle.tib_expand.specs.Lawful.{IsLawful}
 use Rattle.tib_expand.specs.Reading.{Reading}
-use Rattle.tib_keyed.proofs.KeyOrders.{key_stays}
+use Rattle.tib_key_edges.proofs.KeyOrders.{key_stays}
 use Rattle.tib_grammar.specs.Range.{AllBelow}
 use Rattle.tib_transducer.specs.declared.Variable.{Variable}
 use Rattle.tib_strings.specs.Rules.{string_rule, states_in}
 use Rattle.tib_strings.specs.Range.{AreWithin}
 use Rattle.tib_strings.specs.declared.StringRule.{StringRule}
-use Rattle.tib_keyed.specs.declared.side_rule.SideRule.{SideRule}
-use Rattle.tib_keyed.specs.SideRules.{side_reading}
-use Rattle.tib_keyed.specs.SideRuleLaws.{reads_places, reads_positions}
+use Rattle.tib_key_edges.specs.declared.side_rule.SideRule.{SideRule}
+use Rattle.tib_key_edges.specs.SideRules.{side_reading}
+use Rattle.tib_key_edges.specs.SideRuleLaws.{reads_places, reads_positions}
 use Rattle.tib_image.specs.Restrictions.{restricted_labels}
 use Rattle.tib_image.specs.Parsing.{first_key, key_at, IsParseEdge}
 use Rattle.tib_image.specs.ParseOperation.{IsKey, key_cmp, key_entries, parse}

@@ -5,9 +5,9 @@ use Rattle.tib_lex.specs.Lists.{Each, Along, total}
 use Rattle.tib_grammar.specs.Sides.{label, holes_of, side_map}
 use Rattle.tib_grammar.specs.declared.Rule.{Rule}
 use Rattle.tib_grammar.specs.Positions.{all_ends}
-use Rattle.tib_keyed.specs.declared.side_listing.SideListing.{SideListing}
-use Rattle.tib_keyed.specs.SideRules.{Reads}
-use Rattle.tib_keyed.specs.Listing.{IsAlike}
+use Rattle.tib_key_edges.specs.declared.side_listing.SideListing.{SideListing}
+use Rattle.tib_key_edges.specs.SideRules.{Reads}
+use Rattle.tib_key_edges.specs.Listing.{IsAlike}
 use Rattle.tib_transducer.specs.declared.Variable.{Variable}
 use Rattle.tib_strings.specs.declared.StringRule.{StringRule}
 use Rattle.tib_strings.specs.Rules.{pairs_of}

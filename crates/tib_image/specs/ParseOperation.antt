@@ -10,8 +10,8 @@ use Rattle.tib_grammar.specs.Range.{AreInRange}
 use Rattle.tib_grammar.specs.Series.{IsSeries}
 use Rattle.tib_grammar.specs.GrammarOf.{named_rule}
 use Rattle.tib_grammar.specs.declared.Rule.{Rule}
-use Rattle.tib_expand.specs.Reached.{Operation, IsReached, IsReachedSet}
-use Rattle.tib_keyed.specs.Keyed.{keyed}
+use Rattle.tib_expand.specs.Reached.{Exploration, IsReached, IsReachedSet}
+use Rattle.tib_key_edges.specs.Keyed.{keyed}
 use Rattle.tib_expand.specs.Keys.{key_parts}
 use Rattle.tib_strings.specs.Range.{AreWithin, AreShaped, AreLinear, AreNondeleting}
 use Rattle.tib_strings.specs.Series.{IsStringSeries}
@@ -36,7 +36,7 @@ abbrev pub edge_parts : Rule (ℕ × ℕ × ℕ × ℕ) → ℕ
 edge_parts e = 1 + size e.right
 
 -- From the key of the start over the whole string each key leads on along its edges.
-abbrev pub parse : List (StringRule ℕ) → List ℕ → Operation (ℕ × ℕ × ℕ × ℕ) (ℕ × List ℕ) (Rule (ℕ × ℕ × ℕ × ℕ))
+abbrev pub parse : List (StringRule ℕ) → List ℕ → Exploration (ℕ × ℕ × ℕ × ℕ) (ℕ × List ℕ) (Rule (ℕ × ℕ × ℕ × ℕ))
 parse moves string =
     keyed key_cmp (first_key (length string)) (IsParseEdge moves string) (λ e. holes_of e.right) (key_parts key_entries) edge_parts
 

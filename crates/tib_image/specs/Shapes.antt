@@ -3,7 +3,7 @@
 use Rattle.std.specs.Prelude.{ℕ, ◌&&◌, nat_eq, Bool, List}
 use Rattle.tib_tree.specs.Trees.{count}
 use Rattle.tib_grammar.specs.Sides.{is_label}
-use Rattle.tib_keyed.specs.Places.{places_from}
+use Rattle.tib_key_edges.specs.Places.{places_from}
 use Rattle.tib_transducer.specs.declared.TransducerRule.{TransducerRule}
 
 -- whether a rule has a state, and a label and a rank at the root of its left-hand side; these three

@@ -2,7 +2,7 @@
 ghost use Rattle.std.specs.Prelude.{◌≡◌, List, [], ◌∷◌, ◌+◌, map, Some, None};
 ghost use Rattle.tib_expand.specs.Reached.{parts_of};
 ghost use Rattle.tib_grammar.specs.GrammarOf.{named_rule};
-ghost use Rattle.tib_keyed.specs.Ends.{key_at};
+ghost use Rattle.tib_key_edges.specs.Ends.{key_at};
 ghost use Rattle.tib_transducer.specs.Rules.{transducer_rule};
 ghost use Rattle.tib_image.specs.Nodes.{MatchesAt, nodes_of};
 ghost use Rattle.tib_image.specs.Image.{image_of};

@@ -6,7 +6,7 @@ use std::alloc::{AllocError, Global};
 use tib_cost::Semiring;
 use tib_grammar::Rule;
 use tib_expand::{Edges, Expand, ExpandError};
-use tib_keyed::{SideRule, settled_side};
+use tib_key_edges::{SideRule, settled_side};
 use tib_transducer::Pair;
 
 impl<'a, S: Semiring> Expand for Image<'a, S> {

@@ -9,7 +9,7 @@ ghost use Rattle.tib_image.specs.IsIndex.{IsIndex};
 
 use std::alloc::{AllocError, Global};
 use tib_grammar::Item;
-use tib_keyed::{Shape, ShapeIndex};
+use tib_key_edges::{Shape, ShapeIndex};
 use tib_transducer::{Transducer, TransducerRule};
 
 /// The shape of a rule: its state, and the label and the rank at the root of its left-hand side.

@@ -3,7 +3,7 @@
 //! left-hand sides match at the node. The transducer may copy, delete, be extended and be labelled.
 //! `Image` is this as an operation for `tib_hunt`, and `image` returns the keys that are reached,
 //! with their rules, as does `image_together` by several workers. The trees of a string are in
-//! `parse`. It builds on `tib_transducer`, `tib_hunt` and `tib_keyed`, which has the index of its
+//! `parse`. It builds on `tib_transducer`, `tib_hunt` and `tib_key_edges`, which has the index of its
 //! rules and its edges over places, and for `parse` on `tib_strings`.
 #![tactic(auto)]
 

@@ -5,7 +5,7 @@ ghost use Rattle.tib_lex.specs.Lists.{Each};
 ghost use Rattle.tib_tree.specs.Trees.{size};
 ghost use Rattle.tib_grammar.specs.Items.{holes_in};
 ghost use Rattle.tib_grammar.specs.Sides.{holes_of};
-ghost use Rattle.tib_keyed.specs.Listing.{IsAdded, IsWithinBudget};
+ghost use Rattle.tib_key_edges.specs.Listing.{IsAdded, IsWithinBudget};
 ghost use Rattle.tib_image.specs.Image.{pair_key};
 
 use crate::key::Key;
@@ -13,7 +13,7 @@ use std::alloc::AllocError;
 use tib_cost::Cost;
 use tib_grammar::{Item, Side};
 use tib_expand::ExpandError;
-use tib_keyed::SideListing;
+use tib_key_edges::SideListing;
 use tib_transducer::Pair;
 
 /// Appends the key of the pair that an item may carry, where the variables are at these nodes.

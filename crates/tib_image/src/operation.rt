@@ -7,7 +7,7 @@ ghost use Rattle.tib_transducer.specs.Rules.{transducer_rule};
 ghost use Rattle.tib_image.specs.Image.{IsImageEdge};
 ghost use Rattle.tib_image.specs.Nodes.{subtree};
 ghost use Rattle.tib_image.specs.IsIndex.{IsIndex};
-ghost use Rattle.tib_keyed.specs.Listing.{IsWithinBudget};
+ghost use Rattle.tib_key_edges.specs.Listing.{IsWithinBudget};
 ghost use Rattle.tib_image.specs.Listing.{ListsOrigin, OriginOverruns, ListsKey, KeyOverruns};
 
 use crate::index::index_rules;
@@ -16,7 +16,7 @@ use crate::listing::{Listing, add_edge};
 use crate::walk::match_items;
 use std::alloc::{AllocError, Global};
 use tib_expand::ExpandError;
-use tib_keyed::ShapeIndex;
+use tib_key_edges::ShapeIndex;
 use tib_transducer::Transducer;
 use tib_tree::{Label, Tree};
 

@@ -5,8 +5,8 @@ use Rattle.tib_grammar.specs.declared.Rule.{Rule}
 use Rattle.tib_expand.specs.EdgeLists.{Lists}
 use Rattle.tib_expand.specs.Reached.{AreEdges}
 use Rattle.tib_expand.specs.Keys.{key_parts}
-use Rattle.tib_keyed.proofs.KeyOrders.{edges_below as keyed_edges}
-use Rattle.tib_keyed.specs.Ends.{key_at as pair_at}
+use Rattle.tib_key_edges.proofs.KeyOrders.{edges_below as keyed_edges}
+use Rattle.tib_key_edges.specs.Ends.{key_at as pair_at}
 use Rattle.tib_intersect.specs.PairEdges.{IsPairEdge, ends_of, edge_parts}
 use Rattle.tib_intersect.specs.Intersection.{intersection}
 

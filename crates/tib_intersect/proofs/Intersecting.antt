@@ -19,7 +19,7 @@ use Rattle.tib_cost.proofs.Least.{IsLeast-dominated, IsLeast-products, IsLeast-u
 use Rattle.tib_lex.proofs.Places.{distinct_at, get_map}
 use Rattle.tib_lex.proofs.Alongs.{along_at, along_has}
 use Rattle.tib_lex.proofs.Lists.{length_map}
-use Rattle.tib_keyed.specs.Ends.{key_at as pair_at}
+use Rattle.tib_key_edges.specs.Ends.{key_at as pair_at}
 use Rattle.tib_intersect.specs.PairEdges.{IsPairEdge}
 use Rattle.tib_intersect.specs.PairGrammar.{IsPairGrammar, GivesEdge}
 use Rattle.tib_intersect.specs.PairLaws.{same_edge}

@@ -12,18 +12,18 @@ use Rattle.tib_grammar.proofs.NormalRuns.{label_named}
 use Rattle.tib_grammar.specs.declared.Rule.{Rule}
 use Rattle.tib_grammar.proofs.Sides.{holes_of-over}
 use Rattle.tib_expand.specs.EdgeLists.{IsWithin, key_at}
-use Rattle.tib_intersect.specs.declared.listing.Listing.{Listing}
+use Rattle.tib_intersect.specs.declared.listing.PairListing.{PairListing}
 use Rattle.tib_intersect.specs.declared.pair_rule.PairRule.{PairRule}
 use Rattle.tib_intersect.specs.PairEdges.{IsPairEdge, ends_of, edge_parts}
 use Rattle.tib_intersect.specs.PairRules.{places_of, Reads}
-use Rattle.tib_intersect.specs.Listing.{states_of, pairs_of, all_ends, Agree, IsAdded, IsPassed, IsNext, IsTooMuch, IsListed, Overruns, Stands}
+use Rattle.tib_intersect.specs.PairListing.{states_of, pairs_of, all_ends, Agree, IsAdded, IsPassed, IsNext, IsTooMuch, IsListed, Overruns, Stands}
 use Rattle.tib_intersect.specs.PairLaws.{reads_places}
 use Rattle.tib_lex.proofs.Members.{distinct_more, each_has, has_at, has_left, has_right, has_either}
 use Rattle.tib_lex.proofs.Lists.{each_weaker, total_more}
 use Rattle.tib_lex.proofs.Places.{not_before, index_get}
 use Rattle.tib_lex.proofs.Alongs.{along_more, along_map}
-use Rattle.tib_keyed.specs.Ends.{ends_from, key_at as pair_at}
-use Rattle.tib_keyed.proofs.Ends.{within_wider, place_stays, ends_within}
+use Rattle.tib_key_edges.specs.Ends.{ends_from, key_at as pair_at}
+use Rattle.tib_key_edges.proofs.Ends.{within_wider, place_stays, ends_within}
 
 module _ {K : Type 0} where
   -- the element after the first list
@@ -117,7 +117,7 @@ module _ (product : ℕ → ℕ → ℕ) (ones twos : List (Rule ℕ)) (order : 
   parts-of root one two key c agree = omega (arith, sizes-leaves (pairs_of one two), length-zip (states_of one) (states_of two) agree.rank)
 
   module _ (i j : ℕ) (one two : Rule ℕ) (are : AreRules ones twos order n i j one two) (tried : List (ℕ × ℕ)) (fresh : Has tried (i, j) → ⊥) where
-    listed_added : (l m : Listing) → l.position ≡ n → IsListed product ones twos order n tried l → IsAdded product one two l m → IsListed product ones twos order n (tried ++ (i, j) ∷ []) m
+    listed_added : (l m : PairListing) → l.position ≡ n → IsListed product ones twos order n tried l → IsAdded product one two l m → IsListed product ones twos order n (tried ++ (i, j) ∷ []) m
     listed_added l m at listed added =
         let e : Rule (ℕ × ℕ) = record { left = pair_at order n; right = over added.root (pairs_of one two); cost = product one.cost two.cost } in
         let new : PairRule = record { position = l.position; label = added.root; first_end = length l.ends.items; rank = length (states_of one); cost = product one.cost two.cost } in
@@ -158,7 +158,7 @@ module _ (product : ℕ → ℕ → ℕ) (ones twos : List (Rule ℕ)) (order : 
         let cost : e.cost ≡ product one.cost two.cost = at.costs ∙ sym (ap (λ r. product r.cost two.cost) are.first_is ∙ ap (λ r. product (rule_at ones i).cost r.cost) are.second_is) in
         absurd (omega (arith, at.within))
 
-    listed_passed : (l m : Listing) → IsListed product ones twos order n tried l → IsPassed product one two l m → IsListed product ones twos order n (tried ++ (i, j) ∷ []) m
+    listed_passed : (l m : PairListing) → IsListed product ones twos order n tried l → IsPassed product one two l m → IsListed product ones twos order n (tried ++ (i, j) ∷ []) m
     listed_passed l m listed passed = record {
       origins = listed.origins;
       edges = listed.edges;
@@ -175,11 +175,11 @@ module _ (product : ℕ → ℕ → ℕ) (ones twos : List (Rule ℕ)) (order : 
     }
 
     -- one more origin
-    pub listed_next : (l m : Listing) → l.position ≡ n → IsListed product ones twos order n tried l → IsNext product one two l m → IsListed product ones twos order n (tried ++ (i, j) ∷ []) m
+    pub listed_next : (l m : PairListing) → l.position ≡ n → IsListed product ones twos order n tried l → IsNext product one two l m → IsListed product ones twos order n (tried ++ (i, j) ∷ []) m
     listed_next l m at listed next = elim next [ inl a ↦ listed_added l m at listed a | inr p ↦ listed_passed l m listed p ]
 
     -- an origin whose edge is too much
-    pub overruns_next : (l : Listing) → (root : ℕ) → one.right.label ≡ label root → IsListed product ones twos order n tried l → IsTooMuch product one two l → Overruns product ones twos order n l.budget
+    pub overruns_next : (l : PairListing) → (root : ℕ) → one.right.label ≡ label root → IsListed product ones twos order n tried l → IsTooMuch product one two l → Overruns product ones twos order n l.budget
     overruns_next l root is listed much =
         let e : Rule (ℕ × ℕ) = record { left = pair_at order n; right = over root (pairs_of one two); cost = product one.cost two.cost } in
         record {

@@ -10,14 +10,14 @@ use Rattle.tib_grammar.specs.Run.{rule_at, no_rule}
 use Rattle.tib_grammar.specs.Forms.{AreNormal, IsNormalSide}
 use Rattle.tib_grammar.specs.declared.Rule.{Rule}
 use Rattle.tib_normal.specs.Rules.{rules_from}
-use Rattle.tib_keyed.specs.Places.{places_from}
-use Rattle.tib_keyed.proofs.Places.{places_are, place_is, is_place, places_once}
-use Rattle.tib_intersect.specs.declared.listing.Listing.{Listing}
-use Rattle.tib_keyed.specs.Ends.{key_at as pair_at}
+use Rattle.tib_key_edges.specs.Places.{places_from}
+use Rattle.tib_key_edges.proofs.Places.{places_are, place_is, is_place, places_once}
+use Rattle.tib_intersect.specs.declared.listing.PairListing.{PairListing}
+use Rattle.tib_key_edges.specs.Ends.{key_at as pair_at}
 use Rattle.tib_intersect.specs.PairEdges.{IsPairEdge}
 use Rattle.tib_intersect.specs.PairRules.{Reads}
 use Rattle.tib_intersect.specs.Matching.{positions_with, has_shape}
-use Rattle.tib_intersect.specs.Listing.{states_of, Agree, IsListed, Stands, AreListedFrom}
+use Rattle.tib_intersect.specs.PairListing.{states_of, Agree, IsListed, Stands, AreListedFrom}
 use Rattle.tib_lex.proofs.Booleans.{and-true, and-both}
 use Rattle.tib_lex.proofs.Numbers.{nat_eq-true}
 use Rattle.tib_lex.proofs.Members.{each_of, has_at, has_left, has_right, has_either}
@@ -167,7 +167,7 @@ module _ (twos : List (Rule ℕ)) (two_normal : AreNormal twos) (q f rank : ℕ)
       })
 
 -- the edges with the rules at these positions of the first grammar are listed
-pub record AreListedFor (product : ℕ → ℕ → ℕ) (ones twos : List (Rule ℕ)) (order : List (ℕ × ℕ)) (n : ℕ) (firsts : List ℕ) (l : Listing) : Type 0 where
+pub record AreListedFor (product : ℕ → ℕ → ℕ) (ones twos : List (Rule ℕ)) (order : List (ℕ × ℕ)) (n : ℕ) (firsts : List ℕ) (l : PairListing) : Type 0 where
   pub tried : List (ℕ × ℕ)
   pub listed : IsListed product ones twos order n tried l
   pub among : (o : ℕ × ℕ) → Has tried o → Has firsts o.0
@@ -183,7 +183,7 @@ pair_first i o (k ∷ js) h = elim h [ inl e ↦ ap (λ (z : ℕ × ℕ). z.0) e
 
 -- one rule of the first grammar more
 pub listed_more :
-    (product : ℕ → ℕ → ℕ) (ones twos : List (Rule ℕ)) (order : List (ℕ × ℕ)) (n i : ℕ) (firsts matches : List ℕ) (l m : Listing) (before : AreListedFor product ones twos order n firsts l) →
+    (product : ℕ → ℕ → ℕ) (ones twos : List (Rule ℕ)) (order : List (ℕ × ℕ)) (n i : ℕ) (firsts matches : List ℕ) (l m : PairListing) (before : AreListedFor product ones twos order n firsts l) →
     IsListed product ones twos order n (before.tried ++ map (λ j. (i, j)) matches) m →
     ((o : ℕ × ℕ) (e : Rule (ℕ × ℕ)) → i ≡ o.0 → IsPairEdge product ones twos (pair_at order n) o e → Has matches o.1) →
     AreListedFor product ones twos order n (firsts ++ i ∷ []) m
@@ -244,14 +244,14 @@ module _
 
   -- no origin of the rule was tried
   pub fresh_here :
-      (l : Listing) (before : AreListedFor product ones others order n (take m (positions_of key.0 ones)) l) (j : ℕ) →
+      (l : PairListing) (before : AreListedFor product ones others order n (take m (positions_of key.0 ones)) l) (j : ℕ) →
       Has before.tried (get_or (positions_of key.0 ones) m 0, j) → ⊥
   fresh_here l before j h =
       not_before (positions_of key.0 ones) m 0 (places_once (λ (r : Rule ℕ). nat_eq r.left key.0) ones no_rule) rule.place (before.among (get_or (positions_of key.0 ones) m 0, j) h)
 
   -- what is listed before the rule
   pub listed_here :
-      (l k : Listing) (before : AreListedFor product ones others order n (take m (positions_of key.0 ones)) l) →
+      (l k : PairListing) (before : AreListedFor product ones others order n (take m (positions_of key.0 ones)) l) →
       IsListed product ones others order n (before.tried ++ map (λ j. (get_or (positions_of key.0 ones) m 0, j)) matches) k →
       AreListedFor product ones others order n (take (m + 1) (positions_of key.0 ones)) k
   listed_here l k before listed =
@@ -264,7 +264,7 @@ module _
 
 -- all rules of the first state
 pub listed_all :
-    (product : ℕ → ℕ → ℕ) (ones twos : List (Rule ℕ)) (order : List (ℕ × ℕ)) (n m s : ℕ) (key : ℕ × ℕ) (l : Listing) (xs : List (Rule ℕ)) → xs ≡ rules_from s ones → s ≡ key.0 → length xs ≤ m →
+    (product : ℕ → ℕ → ℕ) (ones twos : List (Rule ℕ)) (order : List (ℕ × ℕ)) (n m s : ℕ) (key : ℕ × ℕ) (l : PairListing) (xs : List (Rule ℕ)) → xs ≡ rules_from s ones → s ≡ key.0 → length xs ≤ m →
     pair_at order n ≡ key → AreListedFor product ones twos order n (take m (positions_of key.0 ones)) l → AreListedFrom product ones twos order n l
 listed_all product ones twos order n m s key l xs are same h at listed =
     let all : take m (positions_of key.0 ones) ≡ positions_of key.0 ones =
@@ -286,7 +286,7 @@ listed_all product ones twos order n m s key l xs are same h at listed =
 
 -- an empty list
 pub listed_none :
-    (product : ℕ → ℕ → ℕ) (ones twos : List (Rule ℕ)) (order : List (ℕ × ℕ)) (n q : ℕ) (l : Listing) → length l.ends.items ≡ 0 → length l.rules.items ≡ 0 → l.parts ≡ 0 →
+    (product : ℕ → ℕ → ℕ) (ones twos : List (Rule ℕ)) (order : List (ℕ × ℕ)) (n q : ℕ) (l : PairListing) → length l.ends.items ≡ 0 → length l.rules.items ≡ 0 → l.parts ≡ 0 →
     AreListedFor product ones twos order n (take 0 (positions_of q ones)) l
 listed_none product ones twos order n q l ends rules parts =
     let no_ends = empty l.ends.items ends in

@@ -8,7 +8,7 @@ use Rattle.tib_grammar.specs.declared.Rule.{Rule}
 use Rattle.tib_expand.specs.EdgeLists.{Lists}
 use Rattle.tib_expand.specs.Reached.{IsNew, AfterRounds, IsReached, AreEdges, IsReachedSet}
 use Rattle.tib_expand.proofs.Reaching.{in_reached}
-use Rattle.tib_keyed.specs.Ends.{key_at as pair_at}
+use Rattle.tib_key_edges.specs.Ends.{key_at as pair_at}
 use Rattle.tib_intersect.specs.PairEdges.{IsPairEdge}
 use Rattle.tib_intersect.specs.PairGrammar.{GivesEdge}
 use Rattle.tib_intersect.specs.PairLaws.{same_edge}

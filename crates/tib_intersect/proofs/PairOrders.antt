@@ -7,7 +7,7 @@ use Rattle.tib_grammar.specs.declared.Rule.{Rule}
 use Rattle.tib_expand.specs.Reached.{AfterRounds}
 use Rattle.tib_expand.specs.Keys.{key_parts}
 use Rattle.tib_expand.proofs.Reaching.{Laws}
-use Rattle.tib_keyed.proofs.KeyOrders.{order_begins as keyed_begins, order_once as keyed_once, op_laws}
+use Rattle.tib_key_edges.proofs.KeyOrders.{order_begins as keyed_begins, order_once as keyed_once, op_laws}
 use Rattle.tib_intersect.specs.PairEdges.{IsPairEdge, ends_of, edge_parts}
 use Rattle.tib_intersect.specs.PairLaws.{same_edge}
 use Rattle.tib_intersect.specs.Intersection.{intersection}

@@ -9,7 +9,7 @@ use Rattle.tib_grammar.specs.declared.Rule.{Rule}
 use Rattle.tib_expand.specs.Reached.{IsReachedSet, IsBeyond, parts_of}
 use Rattle.tib_expand.specs.Reading.{AreBelow}
 use Rattle.tib_expand.specs.Keys.{key_parts}
-use Rattle.tib_keyed.specs.Ends.{key_at as pair_at}
+use Rattle.tib_key_edges.specs.Ends.{key_at as pair_at}
 use Rattle.tib_intersect.specs.PairEdges.{IsPairEdge, edge_parts}
 use Rattle.tib_intersect.specs.PairGrammar.{IsPairGrammar, GivesEdge}
 use Rattle.tib_intersect.specs.Intersection.{intersection, HasRootOf}
@@ -21,7 +21,7 @@ use Rattle.tib_lex.proofs.Lists.{length_map}
 use Rattle.tib_lex.proofs.Alongs.{along_at}
 use Rattle.tib_grammar.specs.Positions.{positions_of}
 use Rattle.tib_grammar.proofs.Positions.{rules_in_range}
-use Rattle.tib_keyed.proofs.Limits.{each_counts}
+use Rattle.tib_key_edges.proofs.Limits.{each_counts}
 
 -- right-hand sides
 

@@ -8,7 +8,7 @@ use Rattle.tib_grammar.specs.declared.Rule.{Rule}
 use Rattle.tib_grammar.specs.Positions.{states_in, positions_of}
 use Rattle.tib_expand.specs.declared.place.Place.{Place}
 use Rattle.tib_expand.specs.EdgeLists.{position_of}
-use Rattle.tib_keyed.specs.Ends.{ends_from}
+use Rattle.tib_key_edges.specs.Ends.{ends_from}
 use Rattle.tib_intersect.specs.declared.pair_rule.PairRule.{PairRule}
 use Rattle.tib_intersect.specs.PairRules.{places_of, read_places}
 

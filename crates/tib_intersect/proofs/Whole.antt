@@ -5,12 +5,12 @@ use Rattle.tib_lex.specs.Lists.{Has, Each, Along, total}
 use Rattle.tib_grammar.specs.Sides.{over}
 use Rattle.tib_grammar.specs.declared.Rule.{Rule}
 use Rattle.tib_expand.specs.EdgeLists.{key_at, IsWithin, IsEnd, Exceeds, AreListed}
-use Rattle.tib_intersect.specs.declared.listing.Listing.{Listing}
+use Rattle.tib_intersect.specs.declared.listing.PairListing.{PairListing}
 use Rattle.tib_intersect.specs.declared.pair_rule.PairRule.{PairRule}
-use Rattle.tib_keyed.specs.Ends.{key_at as pair_at}
+use Rattle.tib_key_edges.specs.Ends.{key_at as pair_at}
 use Rattle.tib_intersect.specs.PairEdges.{IsPairEdge, ends_of, edge_parts}
 use Rattle.tib_intersect.specs.PairRules.{places_of, read_places, Reads}
-use Rattle.tib_intersect.specs.Listing.{all_ends, IsWithinBudget, AreListedFrom, Overruns}
+use Rattle.tib_intersect.specs.PairListing.{all_ends, IsWithinBudget, AreListedFrom, Overruns}
 use Rattle.tib_intersect.specs.PairLaws.{same_edge}
 use Rattle.tib_lex.proofs.Members.{has_left, has_right, has_either}
 use Rattle.tib_lex.proofs.Alongs.{along_of, along_back, total_fewer}
@@ -44,7 +44,7 @@ end_has (f ∷ es) e k h m = elim h [
 module _ (product : ℕ → ℕ → ℕ) (ones twos : List (Rule ℕ)) (order : List (ℕ × ℕ)) (n : ℕ) where
   -- the rules of a whole list are the edges of the pair
   pub whole_listed :
-      (l : Listing) (ends : List (ℕ × ℕ)) (rules : List PairRule) (parts : ℕ) → ends ≡ l.ends.items → rules ≡ l.rules.items → parts ≡ l.parts →
+      (l : PairListing) (ends : List (ℕ × ℕ)) (rules : List PairRule) (parts : ℕ) → ends ≡ l.ends.items → rules ≡ l.rules.items → parts ≡ l.parts →
       IsWithinBudget l → AreListedFrom product ones twos order n l → AreListed (IsPairEdge product ones twos (pair_at order n)) edge_parts places_of read_places order ends rules parts
   whole_listed l ends rules parts e d p within listed =
       subst (λ xs. AreListed (IsPairEdge product ones twos (pair_at order n)) edge_parts places_of read_places order xs rules parts) (sym e)
@@ -64,7 +64,7 @@ module _ (product : ℕ → ℕ → ℕ) (ones twos : List (Rule ℕ)) (order : 
 
   -- its ends are those of the edges
   pub whole_ends :
-      (l : Listing) (ends : List (ℕ × ℕ)) → ends ≡ l.ends.items → AreListedFrom product ones twos order n l → (k : ℕ × ℕ) →
+      (l : PairListing) (ends : List (ℕ × ℕ)) → ends ≡ l.ends.items → AreListedFrom product ones twos order n l → (k : ℕ × ℕ) →
       Has ends k ↔ IsEnd (IsPairEdge product ones twos (pair_at order n)) ends_of k
   whole_ends l ends e listed k = (to, from)
     where

@@ -5,7 +5,7 @@ use Rattle.tib_grammar.specs.Run.{rule_at}
 use Rattle.tib_grammar.specs.declared.Rule.{Rule}
 use Rattle.tib_expand.specs.Reached.{IsReachedSet, parts_of}
 use Rattle.tib_expand.specs.declared.found.Found.{Found}
-use Rattle.tib_keyed.specs.Ends.{key_at as pair_at}
+use Rattle.tib_key_edges.specs.Ends.{key_at as pair_at}
 use Rattle.tib_intersect.specs.PairGrammar.{IsPairGrammar}
 use Rattle.tib_intersect.specs.Intersection.{intersection, HasRootOf}
 

@@ -5,14 +5,14 @@ use Rattle.tib_grammar.specs.Run.{rule_at}
 use Rattle.tib_grammar.specs.declared.Rule.{Rule}
 use Rattle.tib_lex.specs.Lists.{Has, IsReordering}
 use Rattle.tib_lex.specs.PairOrder.{pair_cmp}
-use Rattle.tib_expand.specs.Reached.{Operation, IsReachedSet}
-use Rattle.tib_keyed.specs.Keyed.{keyed}
+use Rattle.tib_expand.specs.Reached.{Exploration, IsReachedSet}
+use Rattle.tib_key_edges.specs.Keyed.{keyed}
 use Rattle.tib_expand.specs.Keys.{key_parts}
 use Rattle.tib_intersect.specs.PairEdges.{IsPairEdge, ends_of, edge_parts}
 
 -- From the pair of the starts each pair leads on along each two rules that agree in label and rank.
 -- A pair has three parts, and an edge one and the nodes of its right-hand side.
-abbrev pub intersection : (ℕ → ℕ → ℕ) → List (Rule ℕ) → List (Rule ℕ) → Operation (ℕ × ℕ) (ℕ × ℕ) (Rule (ℕ × ℕ))
+abbrev pub intersection : (ℕ → ℕ → ℕ) → List (Rule ℕ) → List (Rule ℕ) → Exploration (ℕ × ℕ) (ℕ × ℕ) (Rule (ℕ × ℕ))
 intersection product one two =
     keyed pair_cmp (0, 0) (IsPairEdge product one two) (λ e. ends_of e) (key_parts (λ k. 2)) (λ e. edge_parts e)
 

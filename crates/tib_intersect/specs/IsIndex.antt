@@ -1,8 +1,8 @@
 -- What an index of rules holds.
 use Rattle.std.specs.Prelude.{◌≡◌, ℕ, List}
 use Rattle.tib_grammar.specs.declared.Rule.{Rule}
-use Rattle.tib_keyed.specs.Positions.{positions_of}
-use Rattle.tib_keyed.specs.declared.buckets.ShapeIndex.{ShapeIndex}
+use Rattle.tib_key_edges.specs.Positions.{positions_of}
+use Rattle.tib_key_edges.specs.declared.buckets.ShapeIndex.{ShapeIndex}
 use Rattle.tib_intersect.specs.Matching.{positions_with}
 
 -- for each shape the positions of its rules

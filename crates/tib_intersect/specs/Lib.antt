@@ -4,6 +4,6 @@ pub mod PairRules
 pub mod PairLaws
 pub mod Matching
 pub mod IsIndex
-pub mod Listing
+pub mod PairListing
 pub mod Intersection
 pub mod Answered

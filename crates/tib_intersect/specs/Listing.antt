@@ -6,8 +6,8 @@ use Rattle.tib_grammar.specs.Sides.{label, holes}
 use Rattle.tib_grammar.specs.Run.{rule_at}
 use Rattle.tib_grammar.specs.declared.Rule.{Rule}
 use Rattle.tib_expand.specs.Reached.{most_parts}
-use Rattle.tib_intersect.specs.declared.listing.Listing.{Listing}
-use Rattle.tib_keyed.specs.Ends.{key_at as pair_at}
+use Rattle.tib_intersect.specs.declared.listing.PairListing.{PairListing}
+use Rattle.tib_key_edges.specs.Ends.{key_at as pair_at}
 use Rattle.tib_intersect.specs.PairEdges.{IsPairEdge, ends_of, edge_parts}
 use Rattle.tib_intersect.specs.PairRules.{Reads}
 
@@ -30,7 +30,7 @@ pub record Agree (one two : Rule ℕ) : Type 0 where
   pub rank : length (states_of one) ≡ length (states_of two)
 
 -- the list with the edge of two rules appended
-pub record IsAdded (product : ℕ → ℕ → ℕ) (one two : Rule ℕ) (old new : Listing) : Type 0 where
+pub record IsAdded (product : ℕ → ℕ → ℕ) (one two : Rule ℕ) (old new : PairListing) : Type 0 where
   pub within : product one.cost two.cost ≤ most
   pub root : ℕ
   pub is_root : one.right.label ≡ label root
@@ -43,23 +43,23 @@ pub record IsAdded (product : ℕ → ℕ → ℕ) (one two : Rule ℕ) (old new
   pub parts : new.parts ≡ old.parts + (2 + length (states_of one))
 
 -- the list as it was, where the product of the costs is too great
-pub record IsPassed (product : ℕ → ℕ → ℕ) (one two : Rule ℕ) (old new : Listing) : Type 0 where
+pub record IsPassed (product : ℕ → ℕ → ℕ) (one two : Rule ℕ) (old new : PairListing) : Type 0 where
   pub above : most < product one.cost two.cost
   pub ends : new.ends.items ≡ old.ends.items
   pub rules : new.rules.items ≡ old.rules.items
   pub parts : new.parts ≡ old.parts
 
 -- what is done for two rules
-abbrev pub IsNext : (ℕ → ℕ → ℕ) → Rule ℕ → Rule ℕ → Listing → Listing → Type 0
+abbrev pub IsNext : (ℕ → ℕ → ℕ) → Rule ℕ → Rule ℕ → PairListing → PairListing → Type 0
 IsNext product one two old new = IsAdded product one two old new ⊎ IsPassed product one two old new
 
 -- the edge of two rules has more parts than the budget leaves
-pub record IsTooMuch (product : ℕ → ℕ → ℕ) (one two : Rule ℕ) (old : Listing) : Type 0 where
+pub record IsTooMuch (product : ℕ → ℕ → ℕ) (one two : Rule ℕ) (old : PairListing) : Type 0 where
   pub within : product one.cost two.cost ≤ most
   pub more : old.budget < old.parts + (2 + length (states_of one))
 
 -- the list and its size stay within the budget
-pub record IsWithinBudget (l : Listing) : Type 0 where
+pub record IsWithinBudget (l : PairListing) : Type 0 where
   pub few : length l.ends.items ≤ l.parts
   pub within : l.parts ≤ l.budget
   pub budget : l.budget ≤ most_parts
@@ -75,7 +75,7 @@ pub record Stands (ones twos : List (Rule ℕ)) (order : List (ℕ × ℕ)) (i n
 
 module _ (product : ℕ → ℕ → ℕ) (ones twos : List (Rule ℕ)) (order : List (ℕ × ℕ)) (n : ℕ) where
   -- for the pair at the position n the edges of the origins that were tried are listed, each once
-  pub record IsListed (tried : List (ℕ × ℕ)) (l : Listing) : Type 0 where
+  pub record IsListed (tried : List (ℕ × ℕ)) (l : PairListing) : Type 0 where
     pub origins : List (ℕ × ℕ)
     pub edges : List (Rule (ℕ × ℕ))
     pub once : Distinct origins
@@ -95,13 +95,13 @@ module _ (product : ℕ → ℕ → ℕ) (ones twos : List (Rule ℕ)) (order : 
     pub more : budget < total edge_parts edges
 
   -- every edge of the pair at the position n is listed
-  pub record AreListedFrom (l : Listing) : Type 0 where
+  pub record AreListedFrom (l : PairListing) : Type 0 where
     pub tried : List (ℕ × ℕ)
     pub listed : IsListed tried l
     pub all : (o : ℕ × ℕ) (e : Rule (ℕ × ℕ)) → IsPairEdge product ones twos (pair_at order n) o e → Has tried o
 
 -- the list gets the edges of one rule and of the rules of the second grammar at these positions
-abbrev pub ListsMatches : (ℕ → ℕ → ℕ) → List (Rule ℕ) → Rule ℕ → List ℕ → Listing → Listing → Type 0
+abbrev pub ListsMatches : (ℕ → ℕ → ℕ) → List (Rule ℕ) → Rule ℕ → List ℕ → PairListing → PairListing → Type 0
 ListsMatches product twos one positions old new =
     (ones : List (Rule ℕ)) (order : List (ℕ × ℕ)) (i : ℕ) (tried : List (ℕ × ℕ)) →
     Stands ones twos order i old.position one positions → ((j : ℕ) → Has tried (i, j) → ⊥) →
@@ -109,7 +109,7 @@ ListsMatches product twos one positions old new =
     IsListed product ones twos order old.position (tried ++ map (λ j. (i, j)) positions) new
 
 -- with these edges the pair has more parts than the budget
-abbrev pub MatchesOverrun : (ℕ → ℕ → ℕ) → List (Rule ℕ) → Rule ℕ → List ℕ → Listing → Type 0
+abbrev pub MatchesOverrun : (ℕ → ℕ → ℕ) → List (Rule ℕ) → Rule ℕ → List ℕ → PairListing → Type 0
 MatchesOverrun product twos one positions old =
     (ones : List (Rule ℕ)) (order : List (ℕ × ℕ)) (i : ℕ) (tried : List (ℕ × ℕ)) →
     Stands ones twos order i old.position one positions → ((j : ℕ) → Has tried (i, j) → ⊥) →
@@ -117,7 +117,7 @@ MatchesOverrun product twos one positions old =
     Overruns product ones twos order old.position old.budget
 
 -- the list has every edge of the pair, over each order in which the pair has this position
-abbrev pub ListsPair : (ℕ → ℕ → ℕ) → List (Rule ℕ) → List (Rule ℕ) → ℕ × ℕ → ℕ → Listing → Type 0
+abbrev pub ListsPair : (ℕ → ℕ → ℕ) → List (Rule ℕ) → List (Rule ℕ) → ℕ × ℕ → ℕ → PairListing → Type 0
 ListsPair product ones twos pair position l =
     (order : List (ℕ × ℕ)) → position < length order → pair_at order position ≡ pair →
     AreListedFrom product ones twos order position l

@@ -3,7 +3,7 @@ use Rattle.std.specs.Prelude.{ℕ, ◌&&◌, nat_eq, Bool, List}
 use Rattle.tib_tree.specs.Trees.{count}
 use Rattle.tib_grammar.specs.declared.Rule.{Rule}
 use Rattle.tib_grammar.specs.Sides.{is_label}
-use Rattle.tib_keyed.specs.Places.{places_from}
+use Rattle.tib_key_edges.specs.Places.{places_from}
 
 -- whether a rule has a left state, a label at its root and a rank; these three numbers are its
 -- shape

@@ -9,7 +9,7 @@ use Rattle.tib_grammar.specs.GrammarOf.{named_rule}
 use Rattle.tib_grammar.specs.declared.Rule.{Rule}
 use Rattle.tib_cost.specs.Least.{times}
 use Rattle.tib_expand.specs.EdgeLists.{Lists}
-use Rattle.tib_keyed.specs.Ends.{key_at as pair_at}
+use Rattle.tib_key_edges.specs.Ends.{key_at as pair_at}
 use Rattle.tib_intersect.specs.PairEdges.{IsPairEdge}
 
 module _ (product : ℕ → ℕ → ℕ) (one two : List (Rule ℕ)) where

@@ -15,9 +15,9 @@ use Rattle.tib_expand.specs.declared.place.Place.TheVariants.{Known}
 use Rattle.tib_intersect.specs.declared.pair_rule.PairRule.{PairRule}
 use Rattle.tib_intersect.specs.PairEdges.{IsPairEdge, ends_of}
 use Rattle.tib_expand.specs.Lawful.{IsLawful}
-use Rattle.tib_keyed.specs.Ends.{ends_from, key_at as pair_at}
-use Rattle.tib_keyed.proofs.KeyOrders.{key_stays}
-use Rattle.tib_keyed.proofs.Pairs.{seed_within}
+use Rattle.tib_key_edges.specs.Ends.{ends_from, key_at as pair_at}
+use Rattle.tib_key_edges.proofs.KeyOrders.{key_stays}
+use Rattle.tib_key_edges.proofs.Pairs.{seed_within}
 use Rattle.tib_intersect.specs.Intersection.{intersection}
 use Rattle.tib_intersect.specs.PairRules.{places_of, read_places, pair_reading}
 

@@ -9,7 +9,7 @@ use Rattle.tib_expand.specs.declared.place.Place.{Place}
 use Rattle.tib_expand.specs.declared.place.Place.TheVariants.{Known}
 use Rattle.tib_expand.specs.EdgeLists.{IsWithin, key_at}
 use Rattle.tib_expand.specs.Reading.{Reading}
-use Rattle.tib_keyed.specs.Ends.{ends_from}
+use Rattle.tib_key_edges.specs.Ends.{ends_from}
 use Rattle.tib_intersect.specs.declared.pair_rule.PairRule.{PairRule}
 
 -- the places in a rule, its left one first

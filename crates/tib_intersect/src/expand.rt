@@ -3,7 +3,7 @@
 ghost use Rattle.std.specs.Prelude.{◌≡◌, ℕ, ◌<◌, ◌^◌, length, map};
 ghost use Rattle.tib_lex.specs.Lists.{Each};
 ghost use Rattle.tib_expand.specs.EdgeLists.{IsWithin, position_of};
-ghost use Rattle.tib_keyed.specs.Ends.{ends_from};
+ghost use Rattle.tib_key_edges.specs.Ends.{ends_from};
 ghost use Rattle.tib_intersect.specs.PairRules.{places_of};
 
 use crate::pair_rule::PairRule;
@@ -12,7 +12,7 @@ use std::alloc::{AllocError, Global};
 use tib_cost::Semiring;
 use tib_grammar::{Rule, Side};
 use tib_expand::{Edges, Expand, ExpandError};
-use tib_keyed::StatePair;
+use tib_key_edges::StatePair;
 
 /// The positions of the ends of a rule.
 fn states_at<'e>(rule: &PairRule, ends: &'e [u32]) -> &'e [u32]

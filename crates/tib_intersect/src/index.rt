@@ -9,7 +9,7 @@ ghost use Rattle.tib_intersect.specs.IsIndex.{IsIndex};
 
 use std::alloc::{AllocError, Global};
 use tib_grammar::Rule;
-use tib_keyed::{Shape, ShapeIndex};
+use tib_key_edges::{Shape, ShapeIndex};
 
 /// The shape of a rule: its left state, the label at its root and its rank.
 fn shape_of(rule: &Rule<u32>) -> Shape

@@ -5,7 +5,7 @@ ghost use Rattle.tib_lex.specs.Lists.{Has, Each, Distinct};
 ghost use Rattle.tib_grammar.specs.Forms.{AreNormal, IsNormalSide};
 ghost use Rattle.tib_grammar.specs.Run.{rule_at};
 ghost use Rattle.tib_grammar.specs.declared.Rule.{Rule};
-ghost use Rattle.tib_intersect.specs.Listing.{states_of, pairs_of, Agree, IsNext, IsTooMuch, IsWithinBudget, ListsMatches, MatchesOverrun};
+ghost use Rattle.tib_intersect.specs.PairListing.{states_of, pairs_of, Agree, IsNext, IsTooMuch, IsWithinBudget, ListsMatches, MatchesOverrun};
 ghost use Rattle.tib_grammar.specs.Items.{state_in};
 
 use crate::pair_rule::PairRule;
@@ -13,7 +13,7 @@ use std::alloc::{AllocError, Global};
 use tib_cost::Semiring;
 use tib_grammar::{Item, Rule};
 use tib_expand::{Edges, ExpandError};
-use tib_keyed::StatePair;
+use tib_key_edges::StatePair;
 
 /// Appends the pairs of the states of the items to the ends.
 fn push_pairs(
@@ -34,7 +34,7 @@ fn push_pairs(
 
 /// The edges of the pair at a position, as far as they are listed, within a budget of parts.
 #[derive(Drop)]
-pub struct Listing {
+pub struct PairListing {
     ends: Vec<StatePair>,
     rules: Vec<PairRule>,
     parts: u64,
@@ -42,16 +42,16 @@ pub struct Listing {
     budget: u64,
 }
 
-impl Listing {
+impl PairListing {
     /// The empty list of edges of the pair at a position.
-    pub fn new(alloc: Global, position: u32, budget: u64) -> Listing
+    pub fn new(alloc: Global, position: u32, budget: u64) -> PairListing
         ensures position { result.position ≡ position }
         ensures budget { result.budget ≡ budget }
         ensures ends { length result.ends.items ≡ 0 }
         ensures rules { length result.rules.items ≡ 0 }
         ensures parts { result.parts ≡ 0 }
     {
-        Listing {
+        PairListing {
             ends: Vec::new(alloc),
             rules: Vec::new(alloc),
             parts: 0,
@@ -140,7 +140,7 @@ impl Listing {
         ensures rules { result.rules.items ≡ self.rules.items }
         ensures parts { result.parts ≡ self.parts }
     {
-        let Listing {
+        let PairListing {
             ends,
             rules,
             parts,

@@ -4,15 +4,15 @@ ghost use Rattle.std.specs.Prelude.{◌≡◌, ℕ, ◌<◌, ◌≤◌, List, le
 ghost use Rattle.tib_grammar.specs.Range.{StatesBelow};
 ghost use Rattle.tib_expand.specs.Reached.{most_parts};
 ghost use Rattle.tib_intersect.specs.IsIndex.{IsIndex};
-ghost use Rattle.tib_intersect.specs.Listing.{IsWithinBudget, ListsPair, PairOverruns};
+ghost use Rattle.tib_intersect.specs.PairListing.{IsWithinBudget, ListsPair, PairOverruns};
 
 use crate::index::index_rules;
-use crate::listing::Listing;
+use crate::listing::PairListing;
 use crate::pair_rule::PairRule;
 use std::alloc::{AllocError, Global};
 use tib_cost::Semiring;
 use tib_expand::ExpandError;
-use tib_keyed::{ShapeIndex, StatePair};
+use tib_key_edges::{ShapeIndex, StatePair};
 use tib_normal::Normal;
 
 /// The pairs of a state of the one grammar and a state of the other, reached from the pair of the
@@ -55,7 +55,7 @@ impl<'a, S: Semiring> Pairs<'a, S> {
         pair: StatePair,
         position: u32,
         budget: u64,
-    ) -> Result<Listing, ExpandError>
+    ) -> Result<PairListing, ExpandError>
         requires first { pair.0 < length self.now.left.now.names }
         requires budget { budget ≤ most_parts }
         ensures listed { IfOk result (ListsPair S.product self.now.left.now.rules
@@ -65,7 +65,7 @@ impl<'a, S: Semiring> Pairs<'a, S> {
         ensures within { IfOk result IsWithinBudget }
         ensures budget { IfOk result (λ l. l.budget ≡ budget) }
     {
-        let mut listing = Listing::new(alloc, position, budget);
+        let mut listing = PairListing::new(alloc, position, budget);
         self.left.grammar().is_sound();
         let others = self.right.grammar().rule_list();
         for one in self.left.rules_of(pair.first()) {

@@ -7,23 +7,23 @@ use Rattle.tib_lex.proofs.Lists.{append_nil}
 use Rattle.tib_cost.specs.Semiring.{most}
 use Rattle.tib_tree.specs.Trees.{Tree, size}
 use Rattle.tib_grammar.specs.Run.{rule_at}
-use Rattle.tib_k_best_lists.specs.Heaps.{IsHeap, Adds}
-use Rattle.tib_k_best_lists.specs.Levels.{states_of}
-use Rattle.tib_k_best_lists.specs.Pass.{AreRanks, zeros, offer}
-use Rattle.tib_k_best_lists.specs.ListsOf.{ListsOf}
-use Rattle.tib_k_best_lists.specs.Held.{list_of, entry_at, told, entries_of, candidate_at, no_candidate, ranks_of, ranks_from, tree_by, stands_for, offers_cmp, grown, with_ranks, with_candidate, AreMore, IsSound, IsTuple, IsCandidate, IsPriced, IsKnownBy, Makes}
-use Rattle.tib_k_best_lists.specs.declared.lists.Entry.{Entry}
-use Rattle.tib_k_best_lists.specs.declared.lists.Candidate.{Candidate}
-use Rattle.tib_k_best_lists.proofs.Seeing.{last_at}
-use Rattle.tib_k_best_lists.proofs.Growing.{candidate_kept, known_kept, stands_kept, ranks_from_kept, offer_kept, heap_kept}
+use Rattle.tib_ranked_trees.specs.Heaps.{IsHeap, Adds}
+use Rattle.tib_ranked_trees.specs.Levels.{states_of}
+use Rattle.tib_ranked_trees.specs.Pass.{AreRanks, zeros, offer}
+use Rattle.tib_ranked_trees.specs.ListsOf.{ListsOf}
+use Rattle.tib_ranked_trees.specs.Held.{list_of, entry_at, told, entries_of, candidate_at, no_candidate, ranks_of, ranks_from, tree_by, stands_for, offers_cmp, grown, with_ranks, with_candidate, AreMore, IsSound, IsTuple, IsCandidate, IsPriced, IsKnownBy, Makes}
+use Rattle.tib_ranked_trees.specs.declared.lists.Entry.{Entry}
+use Rattle.tib_ranked_trees.specs.declared.lists.Candidate.{Candidate}
+use Rattle.tib_ranked_trees.proofs.Seeing.{last_at}
+use Rattle.tib_ranked_trees.proofs.Growing.{candidate_kept, known_kept, stands_kept, ranks_from_kept, offer_kept, heap_kept}
 use Rattle.tib_k_best.specs.QueueOf.{QueueOf, waiting_at}
-use Rattle.tib_asked_lists.specs.Firsts.{IsFromFirst, IsMade}
+use Rattle.tib_lazy_lists.specs.Firsts.{IsFromFirst, IsMade}
 use Rattle.tib_k_best.specs.Queues.{HasTrees, IsWaiting, Waits, IsBegun, IsPassed, IsQueue}
 use Rattle.tib_k_best.specs.declared.queue.Waiting.{Waiting}
-use Rattle.tib_asked_lists.proofs.Begun.{ranks_zero}
-use Rattle.tib_asked_lists.proofs.Followed.{zeros_long}
-use Rattle.tib_asked_lists.proofs.Added.{from_end}
-use Rattle.tib_asked_lists.proofs.Kept.{sound_kept}
+use Rattle.tib_lazy_lists.proofs.Begun.{ranks_zero}
+use Rattle.tib_lazy_lists.proofs.Followed.{zeros_long}
+use Rattle.tib_lazy_lists.proofs.Added.{from_end}
+use Rattle.tib_lazy_lists.proofs.Kept.{sound_kept}
 
 below_or : (a b : ℕ) → (a < b) ⊎ (b ≤ a)
 below_or a b = grind arith

@@ -9,17 +9,17 @@ use Rattle.tib_grammar.specs.Range.{AreInRange}
 use Rattle.tib_grammar.specs.Run.{rule_at}
 use Rattle.tib_grammar.specs.declared.Rule.{Rule}
 use Rattle.tib_grammar_file.specs.Printed.{AreLabelled}
-use Rattle.tib_k_best_lists.specs.Ranked.{AreRanksOf}
-use Rattle.tib_k_best_lists.specs.Best.{Costed, HasLarge, IsKBest}
-use Rattle.tib_k_best_lists.specs.Levels.{IsOrderly}
-use Rattle.tib_k_best_lists.proofs.Going.{grow}
-use Rattle.tib_k_best_lists.specs.ListsOf.{ListsOf}
-use Rattle.tib_k_best_lists.specs.Held.{empty_lists, entries_of, list_of, told, IsSound}
-use Rattle.tib_k_best_lists.specs.declared.lists.Entry.{Entry}
-use Rattle.tib_asked_lists.specs.Firsts.{AreFirsts}
-use Rattle.tib_asked_lists.specs.Causes.{IsAskCause}
-use Rattle.tib_asked_lists.specs.declared.error.AskError.{AskError}
-use Rattle.tib_asked_lists.specs.declared.error.AskError.TheVariants.{TreeTooLarge as AskedTooLarge, OutOfMemory as AskedOutOfMemory}
+use Rattle.tib_ranked_trees.specs.Ranked.{AreRanksOf}
+use Rattle.tib_ranked_trees.specs.Best.{Costed, HasLarge, IsKBest}
+use Rattle.tib_ranked_trees.specs.Levels.{IsOrderly}
+use Rattle.tib_ranked_trees.proofs.Going.{grow}
+use Rattle.tib_ranked_trees.specs.ListsOf.{ListsOf}
+use Rattle.tib_ranked_trees.specs.Held.{empty_lists, entries_of, list_of, told, IsSound}
+use Rattle.tib_ranked_trees.specs.declared.lists.Entry.{Entry}
+use Rattle.tib_lazy_lists.specs.Firsts.{AreFirsts}
+use Rattle.tib_lazy_lists.specs.Causes.{IsAskCause}
+use Rattle.tib_lazy_lists.specs.declared.error.AskError.{AskError}
+use Rattle.tib_lazy_lists.specs.declared.error.AskError.TheVariants.{TreeTooLarge as AskedTooLarge, OutOfMemory as AskedOutOfMemory}
 use Rattle.tib_k_best.specs.Causes.{IsCause, IsFaultOf}
 use Rattle.tib_k_best.specs.declared.error.KBestError.{KBestError}
 use Rattle.tib_k_best.proofs.Starting.{as_many, no_list}

@@ -5,13 +5,13 @@ use Rattle.std.proofs.lemmas.List.{length-map}
 use Rattle.std.proofs.lemmas.List.Sums.{sum_by-cons, sum_by_more, sum_by-take-le}
 use Rattle.tib_tree.specs.Trees.{Tree}
 use Rattle.tib_grammar.specs.declared.Rule.{Rule}
-use Rattle.tib_k_best_lists.specs.Best.{Costed, IsFrontAt, IsKBest}
-use Rattle.tib_k_best_lists.specs.ListsOf.{ListsOf}
-use Rattle.tib_k_best_lists.specs.Held.{empty_lists, entries_of, list_of, told, IsSound}
-use Rattle.tib_k_best_lists.specs.declared.lists.Entry.{Entry}
-use Rattle.tib_asked_lists.specs.Demands.{entries_held, nodes_of}
-use Rattle.tib_asked_lists.specs.Firsts.{AreFirsts}
-use Rattle.tib_asked_lists.proofs.Rounded.{held_few}
+use Rattle.tib_ranked_trees.specs.Best.{Costed, IsFrontAt, IsKBest}
+use Rattle.tib_ranked_trees.specs.ListsOf.{ListsOf}
+use Rattle.tib_ranked_trees.specs.Held.{empty_lists, entries_of, list_of, told, IsSound}
+use Rattle.tib_ranked_trees.specs.declared.lists.Entry.{Entry}
+use Rattle.tib_lazy_lists.specs.Demands.{entries_held, nodes_of}
+use Rattle.tib_lazy_lists.specs.Firsts.{AreFirsts}
+use Rattle.tib_lazy_lists.proofs.Rounded.{held_few}
 use Rattle.tib_k_best.specs.LazyLists.{entries_in, IsCounted}
 use Rattle.tib_k_best.specs.Listing.{costed}
 use Rattle.tib_k_best.proofs.Listing.{are_listed}

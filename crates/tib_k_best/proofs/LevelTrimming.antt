@@ -16,9 +16,9 @@ use Rattle.tib_grammar_file.specs.Printed.{AreLabelled, LabelsBelow}
 use Rattle.tib_inside.specs.Trimmed.{IsTrimmed}
 use Rattle.tib_inside.specs.Useful.{IsUseful}
 use Rattle.tib_inside.proofs.Keeping.{as_many, named_at}
-use Rattle.tib_k_best_lists.specs.Levels.{IsOrderly}
-use Rattle.tib_k_best_lists.specs.Best.{Costed, HasLarge, IsKBest, IsTreeAt}
-use Rattle.tib_k_best_lists.proofs.Children.{get_or-map}
+use Rattle.tib_ranked_trees.specs.Levels.{IsOrderly}
+use Rattle.tib_ranked_trees.specs.Best.{Costed, HasLarge, IsKBest, IsTreeAt}
+use Rattle.tib_ranked_trees.proofs.Children.{get_or-map}
 use Rattle.tib_k_best.specs.Causes.{IsCause, IsUsefulCause}
 use Rattle.tib_k_best.specs.Trimmed.{HaveTreesBelow, TrimmedHasTrees}
 use Rattle.tib_k_best.specs.declared.error.KBestError.{KBestError}

@@ -13,7 +13,7 @@ use Rattle.tib_grammar.specs.Range.{AreInRange, IsInRange}
 use Rattle.tib_grammar.specs.Run.{rule_at}
 use Rattle.tib_grammar.specs.declared.Rule.{Rule}
 use Rattle.tib_grammar_file.specs.Printed.{AreLabelled, LabelsBelow}
-use Rattle.tib_k_best_lists.specs.Levels.{free, level, IsOrderly}
+use Rattle.tib_ranked_trees.specs.Levels.{free, level, IsOrderly}
 use Rattle.tib_k_best.specs.Costs.{AreCosts}
 
 le_or : (a b : ℕ) → ((a ≤ b) × (nat_le a b ≡ true)) ⊎ ((b < a) × (nat_le a b ≡ false))

@@ -3,12 +3,12 @@ use Rattle.std.specs.Prelude.{◌≡◌, ◌<◌, ◌≤◌, ℕ, List, length, 
 use Rattle.std.proofs.Common.{arith, ap, sym, ◌∙◌, subst, get_or}
 use Rattle.std.proofs.lemmas.List.{length-map}
 use Rattle.tib_tree.specs.Trees.{Tree, most_nodes, size}
-use Rattle.tib_k_best_lists.specs.Best.{Costed}
-use Rattle.tib_k_best_lists.specs.Pass as pass
-use Rattle.tib_k_best_lists.specs.ListsOf.{ListsOf}
-use Rattle.tib_k_best_lists.specs.Held.{list_of, no_entry, told, IsSound}
-use Rattle.tib_k_best_lists.specs.declared.lists.Entry.{Entry}
-use Rattle.tib_k_best_lists.proofs.Children.{get_or-map}
+use Rattle.tib_ranked_trees.specs.Best.{Costed}
+use Rattle.tib_ranked_trees.specs.Pass as pass
+use Rattle.tib_ranked_trees.specs.ListsOf.{ListsOf}
+use Rattle.tib_ranked_trees.specs.Held.{list_of, no_entry, told, IsSound}
+use Rattle.tib_ranked_trees.specs.declared.lists.Entry.{Entry}
+use Rattle.tib_ranked_trees.proofs.Children.{get_or-map}
 use Rattle.tib_k_best.specs.Listing.{costed, AreListed}
 
 -- the list of a state, with the trees of all lists

@@ -6,10 +6,10 @@ use Rattle.std.proofs.lemmas.List.{get_or-set_same, get_or-set_other}
 use Rattle.std.proofs.lemmas.List.Sums.{sum_by-set}
 use Rattle.tib_lex.specs.Lists.{Has}
 use Rattle.tib_grammar.specs.Run.{rule_at}
-use Rattle.tib_k_best_lists.specs.Levels.{states_of}
-use Rattle.tib_k_best_lists.specs.ListsOf.{ListsOf}
-use Rattle.tib_k_best_lists.specs.Held.{list_of}
-use Rattle.tib_k_best_lists.specs.declared.lists.Entry.{Entry}
+use Rattle.tib_ranked_trees.specs.Levels.{states_of}
+use Rattle.tib_ranked_trees.specs.ListsOf.{ListsOf}
+use Rattle.tib_ranked_trees.specs.Held.{list_of}
+use Rattle.tib_ranked_trees.specs.declared.lists.Entry.{Entry}
 use Rattle.tib_k_best.specs.QueueOf.{QueueOf, waiting_at}
 use Rattle.tib_k_best.specs.Queues.{HasTrees, IsWaiting, IsQueue, IsPopped, left_over}
 use Rattle.tib_k_best.specs.declared.queue.Waiting.{Waiting}

@@ -12,12 +12,12 @@ use Rattle.tib_grammar.specs.Forms.{AreNormal}
 use Rattle.tib_grammar.specs.declared.Rule.{Rule}
 use Rattle.tib_tree.specs.Order.{tree_cmp_by}
 use Rattle.tib_inside.proofs.Chosen.{ascends_at}
-use Rattle.tib_k_best_lists.specs.Best.{Cheaper, Costed, IsFrontAt, IsKBest, IsTreeAt}
-use Rattle.tib_k_best_lists.specs.Levels.{level}
-use Rattle.tib_k_best_lists.specs.Leveling.{AreAdded, AreBelow}
-use Rattle.tib_k_best_lists.specs.Pass.{HasTree, no_entry}
-use Rattle.tib_k_best_lists.proofs.Going.{grow}
-use Rattle.tib_k_best_lists.proofs.Telling.{has_or, no_fewer}
+use Rattle.tib_ranked_trees.specs.Best.{Cheaper, Costed, IsFrontAt, IsKBest, IsTreeAt}
+use Rattle.tib_ranked_trees.specs.Levels.{level}
+use Rattle.tib_ranked_trees.specs.Leveling.{AreAdded, AreBelow}
+use Rattle.tib_ranked_trees.specs.Pass.{HasTree, no_entry}
+use Rattle.tib_ranked_trees.proofs.Going.{grow}
+use Rattle.tib_ranked_trees.proofs.Telling.{has_or, no_fewer}
 use Rattle.tib_k_best.specs.RankedOf.{ranked_of, told_at, told_below, AreRanked}
 use Rattle.tib_k_best.specs.Splits.{AreUnder, IsSplit, IsSplitAt, IsWhole}
 use Rattle.tib_k_best.specs.Weights.{places_from, AreByCost, AreWeights, CostFirst, HaveCosts}

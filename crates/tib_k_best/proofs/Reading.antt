@@ -4,9 +4,9 @@ use Rattle.std.proofs.Common.{arith, ap, sym, ◌∙◌, subst, inl, inr, get_or
 use Rattle.std.proofs.lemmas.List.{get_or_append_left, length-map}
 use Rattle.tib_lex.proofs.Lists.{append_nil}
 use Rattle.tib_tree.specs.Trees.{most_nodes, size}
-use Rattle.tib_k_best_lists.specs.Best.{Costed}
-use Rattle.tib_k_best_lists.specs.Pass.{no_entry}
-use Rattle.tib_k_best_lists.proofs.Children.{get_or-map}
+use Rattle.tib_ranked_trees.specs.Best.{Costed}
+use Rattle.tib_ranked_trees.specs.Pass.{no_entry}
+use Rattle.tib_ranked_trees.proofs.Children.{get_or-map}
 use Rattle.tib_k_best.specs.RankedOf.{ranked_of, told_at, told_below, AreRanked}
 use Rattle.tib_k_best.specs.Weights.{AreNumbered}
 use Rattle.tib_k_best.proofs.Lists.{get_right, same_lists}

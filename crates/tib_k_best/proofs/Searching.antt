@@ -10,15 +10,15 @@ use Rattle.tib_tree.specs.Trees.{Tree}
 use Rattle.tib_grammar.specs.Forms.{AreNormal}
 use Rattle.tib_grammar.specs.declared.Rule.{Rule}
 use Rattle.tib_tree.specs.Order.{tree_cmp_by}
-use Rattle.tib_k_best_lists.specs.Best.{Cheaper, Costed, IsKBest, IsTreeAt}
-use Rattle.tib_k_best_lists.specs.Levels.{level, IsLevel}
-use Rattle.tib_k_best_lists.specs.Leveling.{LevelsListBest}
-use Rattle.tib_k_best_lists.specs.Pass.{HasTree}
-use Rattle.tib_k_best_lists.proofs.Fronts.{not_itself}
-use Rattle.tib_k_best_lists.proofs.Ranks.{cheaper_strict}
-use Rattle.tib_k_best_lists.proofs.Leveling.{levels_list_best}
-use Rattle.tib_k_best_lists.proofs.Telling.{has_or, AreApart, no_fewer}
-use Rattle.tib_k_best_lists.proofs.Children.{get_or-default}
+use Rattle.tib_ranked_trees.specs.Best.{Cheaper, Costed, IsKBest, IsTreeAt}
+use Rattle.tib_ranked_trees.specs.Levels.{level, IsLevel}
+use Rattle.tib_ranked_trees.specs.Leveling.{LevelsListBest}
+use Rattle.tib_ranked_trees.specs.Pass.{HasTree}
+use Rattle.tib_ranked_trees.proofs.Fronts.{not_itself}
+use Rattle.tib_ranked_trees.proofs.Ranks.{cheaper_strict}
+use Rattle.tib_ranked_trees.proofs.Leveling.{levels_list_best}
+use Rattle.tib_ranked_trees.proofs.Telling.{has_or, AreApart, no_fewer}
+use Rattle.tib_ranked_trees.proofs.Children.{get_or-default}
 use Rattle.tib_k_best.specs.Causes.{IsLevelCause, IsUsefulCause}
 use Rattle.tib_k_best.specs.Costs.{AreCosts}
 use Rattle.tib_k_best.specs.declared.error.KBestError.{KBestError}

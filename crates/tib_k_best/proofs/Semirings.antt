@@ -8,8 +8,8 @@ use Rattle.tib_cost.specs.Semiring.{cut, most, ProductLaws}
 use Rattle.tib_tree.specs.Trees.{Trees, none, tree}
 use Rattle.tib_grammar.specs.Run.{rule_at, no_rule, AreRuns}
 use Rattle.tib_grammar.specs.declared.Rule.{Rule}
-use Rattle.tib_k_best_lists.specs.Best.{Costed, IsTreeAt}
-use Rattle.tib_k_best_lists.specs.Levels.{free, level, IsOrderly}
+use Rattle.tib_ranked_trees.specs.Best.{Costed, IsTreeAt}
+use Rattle.tib_ranked_trees.specs.Levels.{free, level, IsOrderly}
 use Rattle.tib_k_best.specs.Causes.{IsLevelCause, IsUsefulCause}
 use Rattle.tib_k_best.specs.declared.error.KBestError.{KBestError}
 use Rattle.tib_k_best.specs.declared.error.KBestError.TheVariants.{TreeTooLarge, OutOfMemory}

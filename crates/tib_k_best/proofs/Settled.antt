@@ -13,32 +13,32 @@ use Rattle.tib_tree.specs.Growth.{LabelsBelow, text_at}
 use Rattle.tib_tree.specs.Order.{tree_cmp_by}
 use Rattle.tib_tree.proofs.Relabelling.{sizes-relabel}
 use Rattle.tib_grammar.specs.Run.{rule_at}
-use Rattle.tib_k_best_lists.specs.Best.{Cheaper, IsTreeAt}
-use Rattle.tib_k_best_lists.specs.First.{NoLater, IsNext, IsFront}
-use Rattle.tib_k_best_lists.specs.Firsts.{IsReady, NoLarger}
-use Rattle.tib_k_best_lists.specs.Levels.{IsOrderly, states_of}
-use Rattle.tib_k_best_lists.specs.Pass.{AreRanks, zeros, offer}
-use Rattle.tib_k_best_lists.proofs.Firsts.{firsts_are_best}
+use Rattle.tib_ranked_trees.specs.Best.{Cheaper, IsTreeAt}
+use Rattle.tib_ranked_trees.specs.First.{NoLater, IsNext, IsFront}
+use Rattle.tib_ranked_trees.specs.Firsts.{IsReady, NoLarger}
+use Rattle.tib_ranked_trees.specs.Levels.{IsOrderly, states_of}
+use Rattle.tib_ranked_trees.specs.Pass.{AreRanks, zeros, offer}
+use Rattle.tib_ranked_trees.proofs.Firsts.{firsts_are_best}
 use Rattle.tib_tree.proofs.Orderings.{nat_less}
-use Rattle.tib_k_best_lists.proofs.FrontsGrowing.{no_smaller}
-use Rattle.tib_k_best_lists.proofs.Ranks.{cheaper_total}
-use Rattle.tib_k_best_lists.specs.ListsOf.{ListsOf}
-use Rattle.tib_k_best_lists.specs.Seen.{tree_at}
-use Rattle.tib_k_best_lists.specs.Held.{no_entry, entry_at, list_of, told, entries_of, candidate_at, ranks_of, tree_by, stands_for, offers_cmp, with_entry, grown, AreMore, IsSound}
-use Rattle.tib_k_best_lists.specs.Ordered.{offers_total}
-use Rattle.tib_k_best_lists.specs.declared.lists.Candidate.{Candidate}
-use Rattle.tib_k_best_lists.proofs.Offering.{rank_at}
-use Rattle.tib_asked_lists.specs.Firsts.{IsFromFirst}
+use Rattle.tib_ranked_trees.proofs.FrontsGrowing.{no_smaller}
+use Rattle.tib_ranked_trees.proofs.Ranks.{cheaper_total}
+use Rattle.tib_ranked_trees.specs.ListsOf.{ListsOf}
+use Rattle.tib_ranked_trees.specs.Seen.{tree_at}
+use Rattle.tib_ranked_trees.specs.Held.{no_entry, entry_at, list_of, told, entries_of, candidate_at, ranks_of, tree_by, stands_for, offers_cmp, with_entry, grown, AreMore, IsSound}
+use Rattle.tib_ranked_trees.specs.Ordered.{offers_total}
+use Rattle.tib_ranked_trees.specs.declared.lists.Candidate.{Candidate}
+use Rattle.tib_ranked_trees.proofs.Offering.{rank_at}
+use Rattle.tib_lazy_lists.specs.Firsts.{IsFromFirst}
 use Rattle.tib_k_best.specs.QueueOf.{QueueOf, waiting_at}
 use Rattle.tib_k_best.specs.Queues.{Waits, IsBegun, IsPassed, IsQueue, IsSettled, IsTaken, IsListed, IsReleased, StaysSame, state_of}
 use Rattle.std.proofs.Math.ListN.{set, length-set}
 use Rattle.tib_lex.proofs.Lists.{append_nil}
 use Rattle.tib_grammar.specs.Range.{AreInRange}
-use Rattle.tib_k_best_lists.proofs.Going.{grow}
-use Rattle.tib_k_best_lists.specs.declared.lists.Entry.{Entry}
-use Rattle.tib_k_best_lists.proofs.Growing.{entries_kept, offer_kept, stands_kept, heap_kept}
+use Rattle.tib_ranked_trees.proofs.Going.{grow}
+use Rattle.tib_ranked_trees.specs.declared.lists.Entry.{Entry}
+use Rattle.tib_ranked_trees.proofs.Growing.{entries_kept, offer_kept, stands_kept, heap_kept}
 use Rattle.tib_k_best.proofs.Beginning.{from_kept, made_kept, placed_kept, first_kept, trees_kept, zeros_there}
-use Rattle.tib_asked_lists.proofs.Taken.{tree_labelled}
+use Rattle.tib_lazy_lists.proofs.Taken.{tree_labelled}
 
 same_or : (a b : ℕ) → (a ≡ b) ⊎ (a ≡ b → ⊥)
 same_or a b = grind arith

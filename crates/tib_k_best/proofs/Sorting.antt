@@ -14,7 +14,7 @@ use Rattle.tib_lex.proofs.Numbers.{nat_eq_cases, nat_eq-itself}
 use Rattle.tib_lex.proofs.PairOrder.{pair_total}
 use Rattle.tib_lex.specs.PairOrder.{pair_cmp}
 use Rattle.tib_inside.proofs.Chosen.{ascends_from}
-use Rattle.tib_k_best_lists.proofs.Children.{get_or-default}
+use Rattle.tib_ranked_trees.proofs.Children.{get_or-default}
 use Rattle.tib_k_best.specs.Weights.{places_from, AreByCost, AreNumbered}
 
 abbrev same_place : ℕ × ℕ → ℕ × ℕ → Bool

@@ -4,16 +4,16 @@ use Rattle.std.proofs.Common.{zero, suc, arith, ap, sym, ◌∙◌, subst, inl, 
 use Rattle.tib_lex.specs.Lists.{Has}
 use Rattle.tib_cost.specs.Semiring.{ProductLaws}
 use Rattle.tib_grammar.specs.declared.Rule.{Rule}
-use Rattle.tib_k_best_lists.specs.Heaps.{IsHeap, TakesFirst}
-use Rattle.tib_k_best_lists.specs.Best.{Cheaper, HasLarge, IsTreeAt}
-use Rattle.tib_k_best_lists.specs.First.{IsFront}
-use Rattle.tib_k_best_lists.specs.Levels.{IsOrderly}
-use Rattle.tib_k_best_lists.proofs.Firsts.{firsts_are_best}
-use Rattle.tib_k_best_lists.specs.ListsOf.{ListsOf}
-use Rattle.tib_k_best_lists.specs.Held.{empty_lists, entries_of, list_of, offers_cmp, stands_for, told, IsKnownBy, IsSound}
-use Rattle.tib_k_best_lists.specs.declared.lists.Entry.{Entry}
+use Rattle.tib_ranked_trees.specs.Heaps.{IsHeap, TakesFirst}
+use Rattle.tib_ranked_trees.specs.Best.{Cheaper, HasLarge, IsTreeAt}
+use Rattle.tib_ranked_trees.specs.First.{IsFront}
+use Rattle.tib_ranked_trees.specs.Levels.{IsOrderly}
+use Rattle.tib_ranked_trees.proofs.Firsts.{firsts_are_best}
+use Rattle.tib_ranked_trees.specs.ListsOf.{ListsOf}
+use Rattle.tib_ranked_trees.specs.Held.{empty_lists, entries_of, list_of, offers_cmp, stands_for, told, IsKnownBy, IsSound}
+use Rattle.tib_ranked_trees.specs.declared.lists.Entry.{Entry}
 use Rattle.tib_k_best.specs.Causes.{IsCause}
-use Rattle.tib_asked_lists.specs.Firsts.{AreFirsts}
+use Rattle.tib_lazy_lists.specs.Firsts.{AreFirsts}
 use Rattle.tib_k_best.specs.QueueOf.{QueueOf, empty_queue, waiting_at}
 use Rattle.tib_k_best.specs.Queues.{rules_before, IsQueue, IsSettled, IsTaken, StaysSame}
 use Rattle.tib_k_best.specs.declared.error.KBestError.{KBestError}

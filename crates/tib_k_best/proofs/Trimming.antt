@@ -22,16 +22,16 @@ use Rattle.tib_inside.specs.Trimmed.{HasSeriesOfEach, IsTrimmed}
 use Rattle.tib_inside.specs.Useful.{IsLive}
 use Rattle.tib_inside.proofs.Keeping.{as_many, named_at}
 use Rattle.tib_inside.proofs.Occurring.{below_at}
-use Rattle.tib_k_best_lists.specs.Best.{Costed, IsTreeAt}
-use Rattle.tib_k_best_lists.specs.Levels.{states_at}
-use Rattle.tib_k_best_lists.proofs.Opening.{has_least}
-use Rattle.tib_k_best_lists.proofs.Children.{get_or-map}
+use Rattle.tib_ranked_trees.specs.Best.{Costed, IsTreeAt}
+use Rattle.tib_ranked_trees.specs.Levels.{states_at}
+use Rattle.tib_ranked_trees.proofs.Opening.{has_least}
+use Rattle.tib_ranked_trees.proofs.Children.{get_or-map}
 use Rattle.tib_grammar.specs.Run.{rule_at}
-use Rattle.tib_k_best_lists.specs.Levels.{states_of}
-use Rattle.tib_k_best_lists.specs.ListsOf.{ListsOf}
-use Rattle.tib_k_best_lists.specs.Held.{list_of}
-use Rattle.tib_k_best_lists.specs.declared.lists.Entry.{Entry}
-use Rattle.tib_asked_lists.specs.Firsts.{AreFirsts}
+use Rattle.tib_ranked_trees.specs.Levels.{states_of}
+use Rattle.tib_ranked_trees.specs.ListsOf.{ListsOf}
+use Rattle.tib_ranked_trees.specs.Held.{list_of}
+use Rattle.tib_ranked_trees.specs.declared.lists.Entry.{Entry}
+use Rattle.tib_lazy_lists.specs.Firsts.{AreFirsts}
 use Rattle.tib_k_best.specs.Trimmed.{HaveTreesBelow}
 
 some_or : (es : List Entry) → (0 < length es) ⊎ (es ≡ [])

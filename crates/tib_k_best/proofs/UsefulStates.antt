@@ -15,9 +15,9 @@ use Rattle.tib_grammar.proofs.NormalRuns.{count-yields}
 use Rattle.tib_inside.specs.Inside.{IsInside, IsRunCost}
 use Rattle.tib_inside.specs.Useful as useful
 use Rattle.tib_inside.specs.Useful.{IsUseful}
-use Rattle.tib_k_best_lists.specs.Best.{Cheaper, Costed, HasLarge, IsFrontAt, IsNextAt, IsTreeAt}
-use Rattle.tib_k_best_lists.specs.First.{NoLater}
-use Rattle.tib_k_best_lists.proofs.Opening.{has_least}
+use Rattle.tib_ranked_trees.specs.Best.{Cheaper, Costed, HasLarge, IsFrontAt, IsNextAt, IsTreeAt}
+use Rattle.tib_ranked_trees.specs.First.{NoLater}
+use Rattle.tib_ranked_trees.proofs.Opening.{has_least}
 
 -- a tree that costs no more than any other of the state
 record HasCheapest (product : ℕ → ℕ → ℕ) (rules : List (Rule ℕ)) (q : ℕ) : Type 0 where

@@ -7,7 +7,7 @@ use Rattle.std.proofs.Common.{zero, suc, arith, ap, sym, subst, ◌∙◌, get_o
 use Rattle.std.specs.Global.{Vec}
 use Rattle.std.proofs.Math.ListN.{set}
 use Rattle.std.proofs.lemmas.List.{map-set, length-map, get_or-set_same}
-use Rattle.tib_k_best_lists.proofs.Children.{get_or-map}
+use Rattle.tib_ranked_trees.proofs.Children.{get_or-map}
 use Rattle.tib_k_best.specs.QueueOf.{QueueOf, rules_of, waiting_at}
 use Rattle.tib_k_best.specs.declared.queue.Waiting.{Waiting}
 

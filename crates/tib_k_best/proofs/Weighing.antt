@@ -6,8 +6,8 @@ use Rattle.tib_cost.proofs.Least.{IsLeast-unique}
 use Rattle.tib_tree.specs.Trees.{Tree}
 use Rattle.tib_grammar.specs.Series.{IsSeries}
 use Rattle.tib_grammar.specs.declared.Rule.{Rule}
-use Rattle.tib_k_best_lists.specs.Best.{Costed, IsTreeAt}
-use Rattle.tib_k_best_lists.specs.Pass.{no_entry}
+use Rattle.tib_ranked_trees.specs.Best.{Costed, IsTreeAt}
+use Rattle.tib_ranked_trees.specs.Pass.{no_entry}
 use Rattle.tib_k_best.specs.Weights.{CostAsListed, CostFirst, HaveCosts}
 
 last_or : (j m : ℕ) → j < m + 1 → (j < m) ⊎ (j ≡ m)

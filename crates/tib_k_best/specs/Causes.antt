@@ -2,10 +2,10 @@
 use Rattle.std.specs.Prelude.{◌≡◌, ℕ, Bool, List}
 use Rattle.tib_grammar.specs.declared.Rule.{Rule}
 use Rattle.tib_inside.specs.Useful.{IsUseful}
-use Rattle.tib_k_best_lists.specs.Best.{HasLarge}
-use Rattle.tib_k_best_lists.specs.Levels.{IsLevel}
-use Rattle.tib_asked_lists.specs.declared.error.AskError.{AskError}
-use Rattle.tib_asked_lists.specs.declared.error.AskError.TheVariants.{TreeTooLarge as AskedTooLarge, OutOfMemory as AskedOutOfMemory}
+use Rattle.tib_ranked_trees.specs.Best.{HasLarge}
+use Rattle.tib_ranked_trees.specs.Levels.{IsLevel}
+use Rattle.tib_lazy_lists.specs.declared.error.AskError.{AskError}
+use Rattle.tib_lazy_lists.specs.declared.error.AskError.TheVariants.{TreeTooLarge as AskedTooLarge, OutOfMemory as AskedOutOfMemory}
 use Rattle.tib_k_best.specs.declared.error.KBestError.{KBestError}
 use Rattle.tib_k_best.specs.declared.error.KBestError.TheVariants.{TreeTooLarge, OutOfMemory}
 

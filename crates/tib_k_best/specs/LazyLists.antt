@@ -2,8 +2,8 @@
 use Rattle.std.specs.Prelude.{◌≡◌, ℕ, ◌<◌, List, [], length, sum_by}
 use Rattle.std.proofs.Common.{get_or}
 use Rattle.tib_tree.specs.Trees.{Tree}
-use Rattle.tib_k_best_lists.specs.Best.{Costed}
-use Rattle.tib_k_best_lists.specs.declared.lists.Entry.{Entry}
+use Rattle.tib_ranked_trees.specs.Best.{Costed}
+use Rattle.tib_ranked_trees.specs.declared.lists.Entry.{Entry}
 use Rattle.tib_k_best.specs.Listing.{AreListed}
 
 -- how many entries all lists have together

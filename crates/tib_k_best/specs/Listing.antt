@@ -3,10 +3,10 @@ use Rattle.std.specs.Prelude.{◌^◌, ◌<◌, ◌≤◌, ℕ, List, length, ma
 use Rattle.std.specs.Coded.{Coded, coded×, coded_list, coded_ℕ}
 use Rattle.std.proofs.Common.{get_or}
 use Rattle.tib_tree.specs.Trees.{Tree, most_nodes, size, tree_code}
-use Rattle.tib_k_best_lists.specs.Best.{Costed}
-use Rattle.tib_k_best_lists.specs.Held.{no_entry, told}
-use Rattle.tib_k_best_lists.specs.Seen.{tree_at}
-use Rattle.tib_k_best_lists.specs.declared.lists.Entry.{Entry}
+use Rattle.tib_ranked_trees.specs.Best.{Costed}
+use Rattle.tib_ranked_trees.specs.Held.{no_entry, told}
+use Rattle.tib_ranked_trees.specs.Seen.{tree_at}
+use Rattle.tib_ranked_trees.specs.declared.lists.Entry.{Entry}
 
 -- trees with costs are stored as pairs
 abbrev pub costed_code : Coded (List Costed)

@@ -4,14 +4,14 @@ use Rattle.std.proofs.Math.ListN.{set}
 use Rattle.std.proofs.Common.{zero, suc, get_or}
 use Rattle.tib_lex.specs.Lists.{Has}
 use Rattle.tib_grammar.specs.Run.{rule_at}
-use Rattle.tib_k_best_lists.specs.Heaps.{IsHeap, TakesFirst}
-use Rattle.tib_k_best_lists.specs.Best.{IsFrontAt}
-use Rattle.tib_k_best_lists.specs.Firsts.{IsReady}
-use Rattle.tib_k_best_lists.specs.Levels.{states_of}
-use Rattle.tib_k_best_lists.specs.Pass.{zeros}
-use Rattle.tib_k_best_lists.specs.ListsOf.{ListsOf}
-use Rattle.tib_k_best_lists.specs.Held.{list_of, entry_at, entries_of, candidate_at, ranks_of, stands_for, offers_cmp, tree_by, with_entry, HasNumber, IsSound}
-use Rattle.tib_asked_lists.specs.Firsts.{IsFromFirst, IsMade}
+use Rattle.tib_ranked_trees.specs.Heaps.{IsHeap, TakesFirst}
+use Rattle.tib_ranked_trees.specs.Best.{IsFrontAt}
+use Rattle.tib_ranked_trees.specs.Firsts.{IsReady}
+use Rattle.tib_ranked_trees.specs.Levels.{states_of}
+use Rattle.tib_ranked_trees.specs.Pass.{zeros}
+use Rattle.tib_ranked_trees.specs.ListsOf.{ListsOf}
+use Rattle.tib_ranked_trees.specs.Held.{list_of, entry_at, entries_of, candidate_at, ranks_of, stands_for, offers_cmp, tree_by, with_entry, HasNumber, IsSound}
+use Rattle.tib_lazy_lists.specs.Firsts.{IsFromFirst, IsMade}
 use Rattle.tib_k_best.specs.QueueOf.{QueueOf, waiting_at}
 use Rattle.tib_k_best.specs.declared.queue.Waiting.{Waiting}
 

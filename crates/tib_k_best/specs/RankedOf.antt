@@ -1,8 +1,8 @@
 -- Two lists of trees read as one.
 use Rattle.std.specs.Prelude.{ℕ, ◌+◌, ◌^◌, ◌<◌, List, ◌++◌, length, map}
 use Rattle.std.proofs.Common.{get_or}
-use Rattle.tib_k_best_lists.specs.Best.{Costed}
-use Rattle.tib_k_best_lists.specs.Pass.{no_entry}
+use Rattle.tib_ranked_trees.specs.Best.{Costed}
+use Rattle.tib_ranked_trees.specs.Pass.{no_entry}
 
 -- the tree of a place, at the cost that comes with the place
 abbrev pub told_below : List Costed → ℕ × ℕ → Costed

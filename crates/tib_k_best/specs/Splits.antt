@@ -6,9 +6,9 @@ use Rattle.tib_lex.specs.Lists.{Each, Ascends}
 use Rattle.tib_cost.specs.Semiring.{most}
 use Rattle.tib_grammar.specs.declared.Rule.{Rule}
 use Rattle.tib_tree.specs.Order.{tree_cmp_by}
-use Rattle.tib_k_best_lists.specs.Best.{Costed, IsKBest, IsTreeAt}
-use Rattle.tib_k_best_lists.specs.Levels.{level}
-use Rattle.tib_k_best_lists.specs.Pass.{HasTree}
+use Rattle.tib_ranked_trees.specs.Best.{Costed, IsKBest, IsTreeAt}
+use Rattle.tib_ranked_trees.specs.Levels.{level}
+use Rattle.tib_ranked_trees.specs.Pass.{HasTree}
 
 -- exactly the trees that cost less than c, fewer than k, in the order of trees
 pub record AreUnder (product : ℕ → ℕ → ℕ) (labels : List (List ℕ)) (rules : List (Rule ℕ)) (c k : ℕ)

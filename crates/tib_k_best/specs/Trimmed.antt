@@ -5,8 +5,8 @@ use Rattle.tib_grammar.specs.Forms.{AreNormal}
 use Rattle.tib_grammar.specs.GrammarOf.{GrammarOf}
 use Rattle.tib_grammar.specs.declared.Rule.{Rule}
 use Rattle.tib_inside.specs.Trimmed.{HasSeriesOfEach, IsTrimmed}
-use Rattle.tib_k_best_lists.specs.Best.{Costed, IsTreeAt}
-use Rattle.tib_k_best_lists.specs.Levels.{states_at}
+use Rattle.tib_ranked_trees.specs.Best.{Costed, IsTreeAt}
+use Rattle.tib_ranked_trees.specs.Levels.{states_at}
 
 -- each state below a rule has a tree
 abbrev pub HaveTreesBelow : (ℕ → ℕ → ℕ) → List (Rule ℕ) → Type 0

@@ -1,16 +1,16 @@
 // How a rule goes on when states below it get their first trees.
 ghost use Rattle.std.specs.Prelude.{◌≡◌, ℕ, ◌<◌, ◌≤◌, ◌+◌, ◌∷◌, [], List, length, OnOk};
 ghost use Rattle.tib_grammar.specs.Run.{rule_at};
-ghost use Rattle.tib_k_best_lists.specs.Levels.{states_of};
-ghost use Rattle.tib_k_best_lists.specs.Held.{list_of, IsSound};
+ghost use Rattle.tib_ranked_trees.specs.Levels.{states_of};
+ghost use Rattle.tib_ranked_trees.specs.Held.{list_of, IsSound};
 ghost use Rattle.tib_k_best.specs.Queues.{left_over, HasTrees, IsNextMissing, IsQueue, IsReleased, StaysSame};
 ghost use Rattle.tib_k_best.specs.QueueOf.{waiting_at};
 
 use crate::queue::{Queue, Waiting};
 use std::alloc::AllocError;
 use tib_cost::Semiring;
-use tib_k_best_lists::Lists;
-use tib_k_best_lists::heap::push;
+use tib_ranked_trees::Lists;
+use tib_ranked_trees::heap::push;
 
 // The first place, from a given one on, whose state has no tree; the number of the states if each
 // has one.

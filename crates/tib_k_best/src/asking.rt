@@ -4,13 +4,13 @@ ghost use Rattle.std.specs.Prelude.{◌≡◌, ℕ, ◌<◌, ◌≤◌, ◌+◌,
 ghost use Rattle.tib_grammar.specs.Forms.{AreNormal, IsDeterministic};
 ghost use Rattle.tib_grammar.specs.Range.{AreInRange};
 ghost use Rattle.tib_grammar_file.specs.Printed.{AreLabelled};
-ghost use Rattle.tib_k_best_lists.specs.Ranked.{AreRanksOf};
-ghost use Rattle.tib_k_best_lists.specs.Best.{IsFrontAt, IsKBest};
-ghost use Rattle.tib_k_best_lists.specs.Levels.{IsOrderly};
-ghost use Rattle.tib_k_best_lists.specs.Held.{empty_lists, entries_of, IsSound};
-ghost use Rattle.tib_asked_lists.specs.Causes.{IsAskCause};
-ghost use Rattle.tib_asked_lists.specs.Demands.{entries_held, nodes_of};
-ghost use Rattle.tib_asked_lists.specs.Firsts.{AreFirsts, AreTrimmed};
+ghost use Rattle.tib_ranked_trees.specs.Ranked.{AreRanksOf};
+ghost use Rattle.tib_ranked_trees.specs.Best.{IsFrontAt, IsKBest};
+ghost use Rattle.tib_ranked_trees.specs.Levels.{IsOrderly};
+ghost use Rattle.tib_ranked_trees.specs.Held.{empty_lists, entries_of, IsSound};
+ghost use Rattle.tib_lazy_lists.specs.Causes.{IsAskCause};
+ghost use Rattle.tib_lazy_lists.specs.Demands.{entries_held, nodes_of};
+ghost use Rattle.tib_lazy_lists.specs.Firsts.{AreFirsts, AreTrimmed};
 ghost use Rattle.tib_k_best.specs.Causes.{IsCause, IsFaultOf};
 ghost use Rattle.tib_k_best.specs.Trimmed.{HaveTreesBelow};
 ghost use Rattle.tib_k_best.specs.declared.asking.Form.TheVariants.{Deterministic};
@@ -18,10 +18,10 @@ ghost use Rattle.tib_k_best.specs.declared.asking.Form.TheVariants.{Deterministi
 use crate::error::KBestError;
 use crate::first::first_trees;
 use std::alloc::{AllocError, Global};
-use tib_asked_lists::{AskError, ask_best, ask_lazily};
+use tib_lazy_lists::{AskError, ask_best, ask_lazily};
 use tib_cost::Semiring;
 use tib_grammar::Rule;
-use tib_k_best_lists::Lists;
+use tib_ranked_trees::Lists;
 use tib_tree::Labels;
 
 // What is known of the form of rules in normal form.

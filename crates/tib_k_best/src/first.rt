@@ -1,17 +1,17 @@
 // The first tree of each state.
 ghost use Rattle.std.specs.Prelude.{◌≡◌, ℕ, ◌+◌, ◌<◌, ◌^◌, [], length, IfErr, IfNone, IfSome, OnOk};
-ghost use Rattle.tib_k_best_lists.specs.Levels.{IsOrderly};
-ghost use Rattle.tib_k_best_lists.specs.Held.{empty_lists, list_of, IsSound};
+ghost use Rattle.tib_ranked_trees.specs.Levels.{IsOrderly};
+ghost use Rattle.tib_ranked_trees.specs.Held.{empty_lists, list_of, IsSound};
 ghost use Rattle.tib_k_best.specs.Causes.{IsCause};
-ghost use Rattle.tib_asked_lists.specs.Firsts.{AreFirsts};
+ghost use Rattle.tib_lazy_lists.specs.Firsts.{AreFirsts};
 ghost use Rattle.tib_k_best.specs.Queues.{left_over, rules_before, IsQueue, IsSettled, IsTaken, StaysSame};
 
 use crate::error::KBestError;
 use crate::queue::Queue;
 use std::alloc::{AllocError, Global};
 use tib_cost::Semiring;
-use tib_k_best_lists::Lists;
-use tib_k_best_lists::heap::pop;
+use tib_ranked_trees::Lists;
+use tib_ranked_trees::heap::pop;
 
 impl Queue {
     // Makes each rule wait for a state, or makes its first candidate, while no state has a tree.

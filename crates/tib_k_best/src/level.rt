@@ -4,9 +4,9 @@ ghost use Rattle.tib_cost.specs.Semiring.{most};
 ghost use Rattle.tib_grammar.specs.Forms.{AreNormal};
 ghost use Rattle.tib_grammar.specs.Range.{AreInRange};
 ghost use Rattle.tib_grammar_file.specs.Printed.{AreLabelled};
-ghost use Rattle.tib_k_best_lists.specs.Ranked.{AreRanksOf};
-ghost use Rattle.tib_k_best_lists.specs.Best.{IsKBest};
-ghost use Rattle.tib_k_best_lists.specs.Levels.{level, IsOrderly};
+ghost use Rattle.tib_ranked_trees.specs.Ranked.{AreRanksOf};
+ghost use Rattle.tib_ranked_trees.specs.Best.{IsKBest};
+ghost use Rattle.tib_ranked_trees.specs.Levels.{level, IsOrderly};
 ghost use Rattle.tib_k_best.specs.Causes.{IsUsefulCause};
 ghost use Rattle.tib_k_best.specs.Levels.{AreKept, IsRenamed, NamesBelow};
 

@@ -2,7 +2,7 @@
 ghost use Rattle.std.specs.Prelude.{◌≡◌, ◌<◌, ℕ, List as ListFor, true, length, take, IfErr, IfOk};
 ghost use Rattle.tib_grammar_file.specs.Printed.{AreLabelled};
 ghost use Rattle.tib_grammar.specs.Forms.{AreNormal};
-ghost use Rattle.tib_k_best_lists.specs.Best.{IsKBest};
+ghost use Rattle.tib_ranked_trees.specs.Best.{IsKBest};
 ghost use Rattle.tib_k_best.specs.Causes.{IsLevelCause};
 ghost use Rattle.tib_k_best.specs.RankedOf.{ranked_of, AreRanked};
 ghost use Rattle.tib_k_best.specs.Splits.{IsSplit};
@@ -15,7 +15,7 @@ use crate::search::{Split, split_levels};
 use crate::weights::{by_cost, first_places, weights_of};
 use std::alloc::{AllocError, Global};
 use tib_cost::{Cost, Semiring};
-use tib_k_best_lists::label_ranks;
+use tib_ranked_trees::label_ranks;
 use tib_normal::Normal;
 use tib_tree::Labels;
 

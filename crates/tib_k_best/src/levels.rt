@@ -2,7 +2,7 @@
 ghost use Rattle.std.specs.Prelude.{◌≡◌, ◌<◌, ◌^◌, length, map, IfOk};
 ghost use Rattle.tib_grammar.specs.Forms.{AreNormal, IsNormalSide};
 ghost use Rattle.tib_grammar.specs.Sides.{holes};
-ghost use Rattle.tib_k_best_lists.specs.Levels.{level};
+ghost use Rattle.tib_ranked_trees.specs.Levels.{level};
 ghost use Rattle.tib_k_best.specs.Costs.{at_cost, AreCosts};
 
 use std::alloc::{AllocError, Global};

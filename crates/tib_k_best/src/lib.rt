@@ -1,5 +1,5 @@
 //! Lists of the best trees of a grammar in normal form: first trees (Knuth 1977), and lists that
-//! grow where a tree is asked for (`tib_asked_lists`). If the product is the greater factor, binary
+//! grow where a tree is asked for (`tib_lazy_lists`). If the product is the greater factor, binary
 //! search finds the least level with k trees, and the trees below it are weighed and sorted.
 #![tactic(auto)]
 
@@ -7,10 +7,10 @@ mod advancing;
 mod asking;
 mod best;
 mod error;
-mod every;
+mod any_grammar;
 mod first;
 mod laws;
-mod lazy;
+mod lazy_list;
 mod level;
 mod level_best;
 mod levels;
@@ -23,10 +23,10 @@ mod weights;
 
 pub use best::best_of_rules;
 pub use error::KBestError;
-pub use every::{best_trees, k_best};
+pub use any_grammar::{best_trees, k_best};
 pub use first::first_trees;
 pub use laws::trimmed_has_trees;
-pub use lazy::{LazyList, lazy_k_best, lazy_of_rules};
+pub use lazy_list::{LazyList, lazy_k_best, lazy_of_rules};
 pub use level_best::k_best_by_levels;
 pub use levels::{level_rules, sorted_costs};
 pub use listed::List;

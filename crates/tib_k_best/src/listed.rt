@@ -2,14 +2,14 @@
 ghost use Rattle.std.specs.Prelude.{◌≡◌, ℕ, ◌<◌, ◌≤◌, [], length, map, IfOk};
 ghost use Rattle.std.proofs.Common.{get_or};
 ghost use Rattle.tib_tree.specs.Trees.{most_nodes, size};
-ghost use Rattle.tib_k_best_lists.specs.Pass.{no_entry};
-ghost use Rattle.tib_k_best_lists.specs.Held.{entries_of, IsSound};
+ghost use Rattle.tib_ranked_trees.specs.Pass.{no_entry};
+ghost use Rattle.tib_ranked_trees.specs.Held.{entries_of, IsSound};
 ghost use Rattle.tib_k_best.specs.Listing.{costed, AreListed};
 
 use std::alloc::{AllocError, Global};
 use std::marker::Model;
 use tib_cost::Cost;
-use tib_k_best_lists::{Entry, Lists, Shared};
+use tib_ranked_trees::{Entry, Lists, Shared};
 use tib_tree::Tree;
 
 /// Trees with their costs, the best first, each of at most 10,000 nodes.
@@ -21,7 +21,7 @@ pub struct List {
 
 impl Model for List {
     ghost use Rattle.std.specs.Prelude.{List as ListFor};
-    ghost use Rattle.tib_k_best_lists.specs.Best.{Costed};
+    ghost use Rattle.tib_ranked_trees.specs.Best.{Costed};
     ghost use Rattle.tib_k_best.specs.Listing.{costed, costed_code, AreListed};
 
     ghost Value = { ListFor Costed };

@@ -2,7 +2,7 @@
 ghost use Rattle.std.specs.Prelude.{◌≡◌, ℕ, ◌<◌, ◌≤◌, length, IfOk};
 ghost use Rattle.std.proofs.Common.{get_or};
 ghost use Rattle.tib_tree.specs.Trees.{most_nodes, size};
-ghost use Rattle.tib_k_best_lists.specs.Pass.{no_entry};
+ghost use Rattle.tib_ranked_trees.specs.Pass.{no_entry};
 ghost use Rattle.tib_k_best.specs.RankedOf.{ranked_of, AreRanked};
 
 use crate::listed::List;
@@ -26,7 +26,7 @@ pub struct Ranked {
 
 impl Model for Ranked {
     ghost use Rattle.std.specs.Prelude.{List as ListFor};
-    ghost use Rattle.tib_k_best_lists.specs.Best.{Costed};
+    ghost use Rattle.tib_ranked_trees.specs.Best.{Costed};
     ghost use Rattle.tib_k_best.specs.Listing.{costed_code};
     ghost use Rattle.tib_k_best.specs.RankedOf.{ranked_of, AreRanked};
 

@@ -3,7 +3,7 @@ ghost use Rattle.std.specs.Prelude.{◌≡◌, ◌<◌, ◌^◌, true, length, I
 ghost use Rattle.tib_grammar.specs.Forms.{AreNormal};
 ghost use Rattle.tib_grammar.specs.Range.{AreInRange};
 ghost use Rattle.tib_grammar_file.specs.Printed.{AreLabelled};
-ghost use Rattle.tib_k_best_lists.specs.Ranked.{AreRanksOf};
+ghost use Rattle.tib_ranked_trees.specs.Ranked.{AreRanksOf};
 ghost use Rattle.tib_k_best.specs.Causes.{IsLevelCause};
 ghost use Rattle.tib_k_best.specs.Splits.{IsSplit};
 

@@ -1,7 +1,7 @@
 // First trees, state by state, the least candidate first (Knuth 1977).
 ghost use Rattle.std.specs.Prelude.{◌≡◌, ◌<◌, ◌≤◌, length, OnOk, IfErr};
-ghost use Rattle.tib_k_best_lists.specs.Levels.{IsOrderly};
-ghost use Rattle.tib_k_best_lists.specs.Held.{candidate_at, IsCandidate, IsSound};
+ghost use Rattle.tib_ranked_trees.specs.Levels.{IsOrderly};
+ghost use Rattle.tib_ranked_trees.specs.Held.{candidate_at, IsCandidate, IsSound};
 ghost use Rattle.tib_k_best.specs.Causes.{IsCause};
 ghost use Rattle.tib_k_best.specs.Queues.{left_over, IsListed, IsSettled, IsTaken};
 
@@ -9,7 +9,7 @@ use crate::error::KBestError;
 use crate::queue::Queue;
 use std::alloc::{AllocError, Global};
 use tib_cost::Semiring;
-use tib_k_best_lists::{Entry, Lists};
+use tib_ranked_trees::{Entry, Lists};
 
 // The most nodes that a listed tree may have.
 const MOST_NODES: u64 = tib_tree::MOST_NODES as u64;

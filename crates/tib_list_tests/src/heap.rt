@@ -5,7 +5,7 @@ ghost use Rattle.std.proofs.lemmas.Cmp.{nat_cmp_total};
 
 use std::alloc::Global;
 use std::cmp::Ordering;
-use tib_k_best_lists::heap::{Ranking, pop, push};
+use tib_ranked_trees::heap::{Ranking, pop, push};
 
 struct Plain;
 

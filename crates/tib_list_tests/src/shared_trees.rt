@@ -1,10 +1,10 @@
 // Trees over the labels f, b and a, which are 0, 1 and 2, by their numbers.
 ghost use Rattle.std.specs.Prelude.{◌≤◌, length, IsTrue};
-ghost use Rattle.tib_k_best_lists.specs.Numbers.{NumbersBelow, RootsBelow};
+ghost use Rattle.tib_ranked_trees.specs.Numbers.{NumbersBelow, RootsBelow};
 
 use std::alloc::Global;
 use std::cmp::Ordering;
-use tib_k_best_lists::{Trees, label_ranks};
+use tib_ranked_trees::{Trees, label_ranks};
 use tib_tree::{Labels, Node, read_trees};
 
 // Whether each number is below a count.

@@ -21,9 +21,9 @@ use Rattle.tib_grammar_file.specs.Printable.{HavePlainLabels, IsPrintable, ArePr
 use Rattle.tib_grammar_file.specs.Printed.{AreLabelled}
 use Rattle.tib_grammar_file.proofs.Plain.{labels_below}
 use Rattle.tib_expand.specs.Reached.{IsReachedSet}
-use Rattle.tib_k_best_lists.specs.Best.{Costed, IsTreeAt}
-use Rattle.tib_k_best_lists.specs.Levels.{root_of, states_of}
-use Rattle.tib_k_best_lists.proofs.Ranks.{cheaper_strict}
+use Rattle.tib_ranked_trees.specs.Best.{Costed, IsTreeAt}
+use Rattle.tib_ranked_trees.specs.Levels.{root_of, states_of}
+use Rattle.tib_ranked_trees.proofs.Ranks.{cheaper_strict}
 use Rattle.tib_tree.specs.Order.{tree_cmp_by}
 use Rattle.tib_canon.proofs.ConstructionExists.{IsEdgeOver}
 use Rattle.tib_canon.proofs.PlacesIn.{place_in, placed_in_range, placed_back, map_itself}

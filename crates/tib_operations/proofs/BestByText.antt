@@ -24,8 +24,8 @@ use Rattle.tib_grammar_file.proofs.Renumbering.{Renumbers}
 use Rattle.tib_grammar_file.proofs.RunsByText.{along_at, differ_with, differ_back, runs_kept, cost_kept, rules_given}
 use Rattle.tib_grammar_file.proofs.TreesByText.{tree_printed}
 use Rattle.tib_tree.specs.Order.{tree_cmp}
-use Rattle.tib_k_best_lists.specs.Best.{Costed, Cheaper, IsTreeAt, IsKBest}
-use Rattle.tib_k_best_lists.proofs.Ranks.{tree_below, one_k_best}
+use Rattle.tib_ranked_trees.specs.Best.{Costed, Cheaper, IsTreeAt, IsKBest}
+use Rattle.tib_ranked_trees.proofs.Ranks.{tree_below, one_k_best}
 use Rattle.tib_operations.specs.Text.{cost_text}
 use Rattle.tib_operations.specs.KBest.{costed_line, costed_lines, HasKBestText}
 

@@ -11,10 +11,10 @@ use Rattle.tib_grammar_file.specs.Printed.{AreLabelled}
 use Rattle.tib_tree.proofs.Orderings.{nat_less}
 use Rattle.tib_tree.proofs.Counts.{sizes-relabel}
 use Rattle.tib_tree.proofs.TreeOrder.{only_same}
-use Rattle.tib_k_best_lists.specs.First.{NoLater}
-use Rattle.tib_k_best_lists.specs.Best.{Costed, Cheaper, IsTreeAt, IsFrontAt, IsKBest}
-use Rattle.tib_k_best_lists.proofs.Fronts.{front_more, front_first, front_all, no_later_trans}
-use Rattle.tib_k_best_lists.proofs.Ranks.{cheaper_strict, trees_total, tree_below}
+use Rattle.tib_ranked_trees.specs.First.{NoLater}
+use Rattle.tib_ranked_trees.specs.Best.{Costed, Cheaper, IsTreeAt, IsFrontAt, IsKBest}
+use Rattle.tib_ranked_trees.proofs.Fronts.{front_more, front_first, front_all, no_later_trans}
+use Rattle.tib_ranked_trees.proofs.Ranks.{cheaper_strict, trees_total, tree_below}
 
 -- all lists of trees with at most this many nodes, over the first n labels
 

@@ -16,7 +16,7 @@ use Rattle.tib_grammar_file.proofs.Relabelled.{symbol_with}
 use Rattle.tib_grammar_file.proofs.Renumbering.{renumbering}
 use Rattle.tib_expand.specs.Keys.{key_parts}
 use Rattle.tib_expand.specs.Reached.{IsReachedSet, IsBeyond}
-use Rattle.tib_k_best_lists.specs.Levels.{root_of}
+use Rattle.tib_ranked_trees.specs.Levels.{root_of}
 use Rattle.tib_canon.specs.TrimmedForms.{IsTrimmedForm}
 use Rattle.tib_canon.proofs.EdgesByText.{edge_with}
 use Rattle.tib_canon.proofs.NormalForms.{form_leaves, forms_alike}

@@ -12,9 +12,9 @@ use Rattle.tib_transducer_file.specs.ByName.{ReadsBack}
 use Rattle.tib_transducer_file.specs.Printed.{transducer_text}
 use Rattle.tib_transducer.specs.Outside.{AllMeet}
 use Rattle.tib_canon.proofs.ReachedOnce.{order_once}
-use Rattle.tib_keyed.specs.Plain.{ArePlain}
-use Rattle.tib_keyed.specs.Composition.{composition}
-use Rattle.tib_keyed.proofs.Exact.{composition_laws}
+use Rattle.tib_key_edges.specs.Plain.{ArePlain}
+use Rattle.tib_key_edges.specs.Composition.{composition}
+use Rattle.tib_key_edges.proofs.Exact.{composition_laws}
 use Rattle.tib_canon.specs.Composing.{composing}
 use Rattle.tib_canon.specs.TransducerConstructions.{moves_over, IsCanonicalTransducerOf}
 use Rattle.tib_canon.specs.TransducerKeys.{IsCanonicalTransducer, AreMovesOver}

@@ -32,9 +32,9 @@ use Rattle.tib_normal.specs.NormalForm.{heads, first_inner, labels_in, inner_rul
 use Rattle.tib_inside.specs.Trimmed.{IsTrimmed}
 use Rattle.tib_inside.proofs.Chosen.{ascending_distinct}
 use Rattle.tib_inside.proofs.Keeping.{as_many, named_at}
-use Rattle.tib_k_best_lists.specs.Best.{Costed, Cheaper, IsTreeAt, IsKBest, HasLarge}
-use Rattle.tib_k_best_lists.specs.Levels.{free, level, IsLevel}
-use Rattle.tib_k_best_lists.proofs.Ranks.{cheaper_strict}
+use Rattle.tib_ranked_trees.specs.Best.{Costed, Cheaper, IsTreeAt, IsKBest, HasLarge}
+use Rattle.tib_ranked_trees.specs.Levels.{free, level, IsLevel}
+use Rattle.tib_ranked_trees.proofs.Ranks.{cheaper_strict}
 use Rattle.tib_operations.specs.Demo.{demo_text}
 use Rattle.tib_operations.specs.KBest.{AreSmall, HasLargeTree, ListsSmall}
 use Rattle.tib_operations.proofs.BestExists.{larger_later, nat_cases, size_cases}

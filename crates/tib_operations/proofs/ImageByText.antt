@@ -7,7 +7,7 @@ use Rattle.tib_tree.specs.Trees.{Tree, Trees, none, tree, only, relabel, relabel
 use Rattle.tib_grammar.specs.Sides.{Symbol, label, hole, Side as SideFor, side_map, symbol_map}
 use Rattle.tib_grammar.specs.declared.Rule.{Rule}
 use Rattle.tib_expand.specs.Reached.{IsReachedSet}
-use Rattle.tib_keyed.specs.Ends.{key_at}
+use Rattle.tib_key_edges.specs.Ends.{key_at}
 use Rattle.tib_transducer.specs.Rules.{transducer_rule}
 use Rattle.tib_transducer.specs.Run.{Binds}
 use Rattle.tib_transducer.specs.declared.Variable.{Variable}

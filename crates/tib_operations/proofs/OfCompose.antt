@@ -24,7 +24,7 @@ use Rattle.tib_transducer_file.specs.ByName.{IsPlainLabel, IsPlainAsked, IsPlain
 use Rattle.tib_transducer_file.proofs.ReadBack.{read_back}
 use Rattle.tib_transducer.specs.Outside.{AllMeet}
 use Rattle.tib_canon.specs.Constructions.{HasReachedWithin}
-use Rattle.tib_keyed.specs.Composition.{composition, edge_parts}
+use Rattle.tib_key_edges.specs.Composition.{composition, edge_parts}
 use Rattle.tib_canon.specs.TransducerKeys.{AreMovesOver}
 use Rattle.tib_canon.proofs.Compose.{compose_there}
 use Rattle.tib_canon.proofs.ComposeByText.{compose_alike, moves_given}

@@ -11,7 +11,7 @@ use Rattle.tib_grammar_file.specs.Printable.{ArePrintable}
 use Rattle.tib_grammar_file.specs.Printed.{AreLabelled}
 use Rattle.tib_expand.specs.Reached.{IsBeyond}
 use Rattle.tib_canon.specs.TrimmedForms.{IsTrimmedForm}
-use Rattle.tib_k_best_lists.proofs.Ranks.{tree_below}
+use Rattle.tib_ranked_trees.proofs.Ranks.{tree_below}
 use Rattle.tib_compare.specs.Compared.{AreFree, HasCost, Agree, IsOnlyIn, IsInOne, IsLeastOnly, IsCompared, IsTooLarge}
 use Rattle.tib_compare.specs.Faults.{hunted, IsCause, IsWithin}
 use Rattle.tib_compare.specs.declared.compared.Compared.{Compared}

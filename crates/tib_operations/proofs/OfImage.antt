@@ -20,8 +20,8 @@ use Rattle.tib_grammar_file.proofs.Shapes.{shape_relabelled}
 use Rattle.tib_expand.specs.Keys.{key_parts}
 use Rattle.tib_expand.specs.Reached.{IsReached, IsReachedSet}
 use Rattle.tib_expand.proofs.Reaching.{Laws}
-use Rattle.tib_keyed.specs.Ends.{key_at}
-use Rattle.tib_keyed.proofs.KeyOrders.{op_laws, order_begins}
+use Rattle.tib_key_edges.specs.Ends.{key_at}
+use Rattle.tib_key_edges.proofs.KeyOrders.{op_laws, order_begins}
 use Rattle.tib_transducer.specs.Range.{AreShaped, EndInHoles}
 use Rattle.tib_transducer.specs.Rules.{transducer_rule}
 use Rattle.tib_transducer.specs.TransducerOf.{TransducerOf}

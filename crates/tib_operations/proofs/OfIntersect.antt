@@ -36,7 +36,7 @@ use Rattle.tib_canon.proofs.One.{series_on}
 use Rattle.tib_canon.proofs.PrintableRules.{form_printable, trimmed_printable}
 use Rattle.tib_canon.proofs.ReachedOnce.{edge_given, ends_stand}
 use Rattle.tib_canon.proofs.Sorting.{both_equal, number_same}
-use Rattle.tib_keyed.specs.Ends.{key_at as pair_at}
+use Rattle.tib_key_edges.specs.Ends.{key_at as pair_at}
 use Rattle.tib_intersect.specs.PairEdges.{IsPairEdge}
 use Rattle.tib_intersect.specs.PairGrammar.{IsPairGrammar, PairsMean}
 use Rattle.tib_intersect.specs.Intersection.{intersection}

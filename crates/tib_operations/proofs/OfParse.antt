@@ -20,7 +20,7 @@ use Rattle.tib_grammar_file.proofs.Renumbering.{renumbering}
 use Rattle.tib_expand.specs.Keys.{key_parts}
 use Rattle.tib_expand.specs.Reached.{IsReached, IsReachedSet, parts_of}
 use Rattle.tib_expand.proofs.Reaching.{Laws}
-use Rattle.tib_keyed.proofs.KeyOrders.{op_laws, order_begins}
+use Rattle.tib_key_edges.proofs.KeyOrders.{op_laws, order_begins}
 use Rattle.tib_strings.specs.Range.{AreShaped, AreLinear, AreNondeleting}
 use Rattle.tib_strings.specs.Rules.{string_rule, pairs_of}
 use Rattle.tib_strings.specs.StringTransducerOf.{StringTransducerOf}

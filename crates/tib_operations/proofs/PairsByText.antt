@@ -19,7 +19,7 @@ use Rattle.tib_canon.proofs.NormalByText.{form_with, label_found}
 use Rattle.tib_canon.proofs.ReachedAlike.{AreProblemsAlike, reached_alike}
 use Rattle.tib_canon.proofs.SameRules.{same_rules}
 use Rattle.tib_canon.proofs.TrimmedByText.{grammar_with, trimmed_with}
-use Rattle.tib_keyed.specs.Ends.{key_at as pair_at}
+use Rattle.tib_key_edges.specs.Ends.{key_at as pair_at}
 use Rattle.tib_intersect.specs.PairEdges.{IsPairEdge}
 use Rattle.tib_intersect.specs.Intersection.{intersection}
 use Rattle.tib_intersect.proofs.OrderFree.{order_is_free}

@@ -26,7 +26,7 @@ use Rattle.tib_apply.specs.Operations.{key_cmp, key_entries, edge_parts, forward
 use Rattle.tib_apply.specs.Restrictions.{restricted_labels}
 use Rattle.tib_apply.specs.Forward.{IsForwardEdge, forward_key, deleted, IsAskedCost, IsDeletedCost}
 use Rattle.tib_apply.specs.Backward.{IsBackwardEdge, backward_key}
-use Rattle.tib_keyed.proofs.KeyOrders.{op_laws, order_begins}
+use Rattle.tib_key_edges.proofs.KeyOrders.{op_laws, order_begins}
 use Rattle.tib_apply.proofs.Reached.{key_total, same_forward_edge, same_backward_edge}
 use Rattle.tib_canon.proofs.ConstructionExists.{IsEdgeOver, IsPlainConstruction}
 use Rattle.tib_canon.proofs.ReachedOnce.{edge_given, ends_stand}

@@ -5,7 +5,7 @@ use Rattle.tib_expand.specs.Reached.{IsBeyond}
 use Rattle.tib_transducer.specs.TransducerOf.{TransducerOf}
 use Rattle.tib_transducer.specs.Outside.{Demands, demands}
 use Rattle.tib_canon.specs.Constructions.{HasReachedWithin}
-use Rattle.tib_keyed.specs.Composition.{composition}
+use Rattle.tib_key_edges.specs.Composition.{composition}
 pub use Rattle.tib_canon.specs.Composing.{composing, HasComposeSeries, HasComposeText}
 use Rattle.tib_operations.specs.Classes.{Demanded, demanded_of}
 use Rattle.tib_operations.specs.Made.{Made}

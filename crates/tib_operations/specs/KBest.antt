@@ -6,8 +6,8 @@ use Rattle.tib_tree.specs.Trees.{size, most_nodes}
 use Rattle.tib_grammar.specs.GrammarOf.{GrammarOf}
 use Rattle.tib_grammar.specs.declared.Rule.{Rule}
 use Rattle.tib_inside.specs.Useful.{IsUseful}
-use Rattle.tib_k_best_lists.specs.Best.{Costed, IsKBest, HasLarge}
-use Rattle.tib_k_best_lists.specs.Levels.{IsLevel}
+use Rattle.tib_ranked_trees.specs.Best.{Costed, IsKBest, HasLarge}
+use Rattle.tib_ranked_trees.specs.Levels.{IsLevel}
 use Rattle.tib_canon.specs.TrimmedForms.{IsTrimmedForm}
 use Rattle.tib_operations.specs.Made.{Made, normal_form, IsMadeFault}
 use Rattle.tib_operations.specs.Text.{weighed_line}

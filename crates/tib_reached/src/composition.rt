@@ -4,7 +4,7 @@ ghost use Rattle.std.specs.Prelude.{◌≤◌, length, IfOk, IfErr, true};
 ghost use Rattle.tib_transducer.specs.Outside.{demands, AllMeet};
 ghost use Rattle.tib_expand.specs.Reached.{most_parts, IsBeyond};
 ghost use Rattle.tib_transducer.specs.Range.{AreShaped};
-ghost use Rattle.tib_keyed.specs.Composition.{composition};
+ghost use Rattle.tib_key_edges.specs.Composition.{composition};
 ghost use Rattle.tib_compose.specs.Composed.{AreOverOrder, HasPartsOf, IsComposeFault, IsReachedBy};
 
 use tib_compose::Composite;
@@ -15,13 +15,13 @@ use std::thread::Threads;
 use tib_cost::Semiring;
 use tib_expand::{Found, Gate};
 use tib_hunt::{hunt, hunt_alone};
-use tib_keyed::StatePair;
+use tib_key_edges::StatePair;
 use tib_transducer::{Transducer, TransducerRule};
 
 /// The pairs of states that composition reaches from the pair of the starts, in the order by
 /// rounds, and the rules over their positions. As a transducer whose start is position 0 they turn
 /// each tree into each other one at the least cost over all trees between (`composes_series` of
-/// tib_keyed). `Class` exactly where the second transducer is not linear, nondeleting, not extended
+/// tib_key_edges). `Class` exactly where the second transducer is not linear, nondeleting, not extended
 /// and not labelled; `TooMany` exactly where it is and they have more parts than the limit, 1 to
 /// `MOST_PARTS` of tib_expand; `OutOfMemory` if memory is refused. Calls `gate` once for each pair.
 /// Cost: that of `Composite::new`, and for each pair and each rule of its state of the first

@@ -13,7 +13,7 @@ use tib_cost::Semiring;
 use tib_grammar::Rule;
 use tib_expand::{Found, Gate, HuntError};
 use tib_hunt::{hunt, hunt_alone};
-use tib_keyed::StatePair;
+use tib_key_edges::StatePair;
 use tib_normal::Normal;
 
 /// The pairs that are reached from the pair of the starts, in the order by rounds, and the rules

@@ -2,7 +2,7 @@
 ghost use Rattle.std.specs.Prelude.{map, string_bytes};
 ghost use Rattle.tib_command.specs.Jobs.{job_of};
 ghost use Rattle.tib_run.specs.Log.{line_of};
-ghost use Rattle.tib_job_files.specs.Run.{IsRunOf, IsLogged, files_seen, sink_seen};
+ghost use Rattle.tib_job.specs.Run.{IsRunOf, IsLogged, files_seen, sink_seen};
 
 use crate::alone::perform;
 use crate::log::tell;

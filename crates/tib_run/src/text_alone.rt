@@ -1,9 +1,9 @@
 // The whole text of a job by one worker, of the values of its files.
 ghost use Rattle.std.specs.Prelude.{IsSome};
 ghost use Rattle.tib_command.specs.Jobs.{meaning};
-ghost use Rattle.tib_job_files.specs.Kinds.{kinds_of};
-ghost use Rattle.tib_job_files.specs.Outcomes.{IsOutcome, setting_of};
-ghost use Rattle.tib_job_files.specs.Values.{ArePrintableValues, values_as};
+ghost use Rattle.tib_job.specs.Kinds.{kinds_of};
+ghost use Rattle.tib_job.specs.Outcomes.{IsOutcome, setting_of};
+ghost use Rattle.tib_job.specs.Values.{ArePrintableValues, values_as};
 ghost use Rattle.tib_run.specs.Jobs.{IsWellFormed};
 
 use crate::texts::{classes_of, grammar_text, inside_costs, transducer_text, weighed_trees};
@@ -14,11 +14,11 @@ use tib_cost::Semiring;
 use tib_grammar::Grammar;
 use tib_expand::Gate;
 use tib_io::GrowingSink;
-use tib_job_files::Values;
+use tib_job::Values;
 use tib_hunted_texts::{comparison_of, parse_of};
 use tib_operations::Status;
 use tib_texts::{canonical_normal, canonical_pruned, demand, demand_plain, kbest_text};
-use tib_hunted_texts::{composition_of, demo_of, determinization_of, image_of, intersection_of, outputs_of, preimage_of};
+use tib_hunted_texts::{composition_of, demo_of, determinization_of, forward_image_of, intersection_of, outputs_of, inverse_image_of};
 use tib_tree::Labels;
 
 /// The whole text of a job by one worker, of the values of its files over their table of labels, or
@@ -53,14 +53,14 @@ pub(crate) fn text_of<S: Semiring + Sync + Drop, R: Threads + Sync, G: Gate>(
         Values::GrammarAndTransducer(grammar, transducer) => {
             match demand::<S>(transducer, 2, true, false) {
                 Ok(()) => {
-                    grammar_text(image_of::<S, G>(alloc, grammar, transducer, labels, limit, gate))
+                    grammar_text(forward_image_of::<S, G>(alloc, grammar, transducer, labels, limit, gate))
                 }
                 Err(status) => Err(status),
             }
         }
         Values::TransducerAndGrammar(transducer, grammar) => {
             match demand::<S>(transducer, 1, true, true) {
-                Ok(()) => grammar_text(preimage_of::<S, G>(
+                Ok(()) => grammar_text(inverse_image_of::<S, G>(
                     alloc, transducer, grammar, labels, limit, gate,
                 )),
                 Err(status) => Err(status),

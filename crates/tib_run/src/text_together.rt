@@ -1,9 +1,9 @@
 // The whole text of a job by its workers, of the values of its files.
 ghost use Rattle.std.specs.Prelude.{IsSome};
 ghost use Rattle.tib_command.specs.Jobs.{meaning};
-ghost use Rattle.tib_job_files.specs.Kinds.{kinds_of};
-ghost use Rattle.tib_job_files.specs.Outcomes.{IsOutcome, setting_of};
-ghost use Rattle.tib_job_files.specs.Values.{ArePrintableValues, values_as};
+ghost use Rattle.tib_job.specs.Kinds.{kinds_of};
+ghost use Rattle.tib_job.specs.Outcomes.{IsOutcome, setting_of};
+ghost use Rattle.tib_job.specs.Values.{ArePrintableValues, values_as};
 ghost use Rattle.tib_run.specs.Jobs.{IsWellFormed};
 
 use crate::text_alone::text_of;
@@ -15,10 +15,10 @@ use tib_command::{Job, Operation};
 use tib_cost::Semiring;
 use tib_expand::Gate;
 use tib_io::GrowingSink;
-use tib_job_files::Values;
+use tib_job::Values;
 use tib_hunted_texts::{comparison_of_together, parse_of_together};
 use tib_operations::Status;
-use tib_hunted_texts::{composition_of_together, demo_of_together, determinization_of_together, image_of_together, intersection_of_together, outputs_of_together, preimage_of_together};
+use tib_hunted_texts::{composition_of_together, demo_of_together, determinization_of_together, forward_image_of_together, intersection_of_together, outputs_of_together, inverse_image_of_together};
 use tib_texts::{demand, demand_plain};
 use tib_tree::Labels;
 
@@ -62,7 +62,7 @@ pub(crate) fn text_together<S: Semiring + Sync + Drop, R: Threads + Wait + Sync,
         ),
         Values::GrammarAndTransducer(grammar, transducer) => {
             match demand::<S>(transducer, 2, true, false) {
-                Ok(()) => grammar_text(image_of_together::<S, R, G>(
+                Ok(()) => grammar_text(forward_image_of_together::<S, R, G>(
                     rt, alloc, grammar, transducer, labels, workers, limit, gate,
                 )),
                 Err(status) => Err(status),
@@ -70,7 +70,7 @@ pub(crate) fn text_together<S: Semiring + Sync + Drop, R: Threads + Wait + Sync,
         }
         Values::TransducerAndGrammar(transducer, grammar) => {
             match demand::<S>(transducer, 1, true, true) {
-                Ok(()) => grammar_text(preimage_of_together::<S, R, G>(
+                Ok(()) => grammar_text(inverse_image_of_together::<S, R, G>(
                     rt, alloc, transducer, grammar, labels, workers, limit, gate,
                 )),
                 Err(status) => Err(status),

@@ -6,7 +6,7 @@ ghost use Rattle.tib_operations.specs.Check.{HasClasses};
 ghost use Rattle.tib_operations.specs.Inside.{HasInsides};
 ghost use Rattle.tib_operations.specs.Made.{IsLimit, IsMadeFault};
 ghost use Rattle.tib_operations.specs.Weigh.{IsWeighed, weigh_makes};
-ghost use Rattle.tib_job_files.specs.Outcomes.{text_part};
+ghost use Rattle.tib_job.specs.Outcomes.{text_part};
 
 use std::alloc::Global;
 use std::thread::Threads;

@@ -1,8 +1,8 @@
 // The run of a job by its workers.
 ghost use Rattle.std.specs.Prelude.{◌≡◌, Some, map, string_bytes};
 ghost use Rattle.tib_command.specs.Jobs.{job_of, meaning};
-ghost use Rattle.tib_job_files.specs.Causes.{levelled_of, scale_of, product_of};
-ghost use Rattle.tib_job_files.specs.Run.{IsRunOf, files_seen, sink_seen};
+ghost use Rattle.tib_job.specs.Causes.{levelled_of, scale_of, product_of};
+ghost use Rattle.tib_job.specs.Run.{IsRunOf, files_seen, sink_seen};
 ghost use Rattle.tib_run.specs.Jobs.{IsWellFormed};
 
 use crate::alone::{perform_job, write_outcome};
@@ -14,7 +14,7 @@ use tib_command::{CommandError, Job, Mode, read_words};
 use tib_cost::{Boolean, Bottleneck, MinPlus, Semiring, Widest};
 use tib_expand::Gate;
 use tib_io::{Files, Sink};
-use tib_job_files::{files_have_no_fault, values_of, within_or_too_many};
+use tib_job::{files_have_no_fault, values_of, within_or_too_many};
 use tib_operations::Status;
 use tib_tree::Labels;
 

@@ -14,9 +14,9 @@ use Rattle.tib_grammar.specs.Series.{HaveSameSeries}
 use Rattle.tib_grammar.specs.declared.Rule.{Rule}
 use Rattle.tib_grammar_file.specs.Printable.{ArePrintable, IsPlainIf}
 use Rattle.tib_grammar_file.specs.Printed.{AreLabelled}
-use Rattle.tib_k_best_lists.specs.Best.{Costed, IsKBest, IsTreeAt}
-use Rattle.tib_k_best_lists.proofs.Ranks.{tree_below}
-use Rattle.tib_k_best_lists.specs.Pass.{no_entry}
+use Rattle.tib_ranked_trees.specs.Best.{Costed, IsKBest, IsTreeAt}
+use Rattle.tib_ranked_trees.proofs.Ranks.{tree_below}
+use Rattle.tib_ranked_trees.specs.Pass.{no_entry}
 use Rattle.tib_k_best.specs.Causes.{IsLevelCause}
 use Rattle.tib_k_best.specs.declared.error.KBestError.TheVariants.{TreeTooLarge}
 use Rattle.tib_canon.specs.TrimmedForms.{IsTrimmedForm}

@@ -10,7 +10,7 @@ use Rattle.tib_cost.proofs.Least.{IsLeast-unique}
 use Rattle.tib_grammar.specs.Series.{IsSeries}
 use Rattle.tib_grammar.specs.declared.Rule.{Rule}
 use Rattle.tib_inside.specs.Inside.{IsInside}
-use Rattle.tib_k_best_lists.specs.Best.{Costed, Cheaper, IsKBest, IsTreeAt}
+use Rattle.tib_ranked_trees.specs.Best.{Costed, Cheaper, IsKBest, IsTreeAt}
 use Rattle.tib_prune.specs.Pruned.{IsWithinBeam, HadNoGreaterCosts, KeepsCheapTrees}
 
 -- what is found has what follows of it

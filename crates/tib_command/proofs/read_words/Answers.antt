@@ -7,7 +7,7 @@ use Rattle.tib_command.specs.declared.job.Mode.{Mode}
 use Rattle.tib_command.specs.declared.job.Mode.TheVariants.{MinPlus}
 use Rattle.tib_command.specs.Words.{Item, Part, Text, values_of, mode, depth, workers, limit, beam, place}
 use Rattle.tib_command.specs.Command.{all_values, id_of, takes}
-use Rattle.tib_command.specs.Jobs.{most_parts, most_trees, most_workers, Task, asked_by, beam_in, count_in, job_of, mode_in, once, task_in, task_meaning, texts_of}
+use Rattle.tib_command.specs.Jobs.{most_parts, most_trees, most_workers, AskedFor, asked_by, beam_in, count_in, job_of, mode_in, once, task_in, task_meaning, texts_of}
 use Rattle.tib_command.proofs.Hyphens.{asked_from, job_same}
 use Rattle.tib_command.proofs.Walks.{AllUtf8}
 use Rattle.tib_command.proofs.PartValues.{strings_utf8}
@@ -23,7 +23,7 @@ module _ (words : List Text) (u : AllUtf8 words) (f : Found) (ok : Reads words f
   abbrev at : Text → List Text
   at id = all_values id (rows_of f)
 
-  job_from : (md : Option Mode) (k w l b : Option ℕ) (t : Option Task) → once MinPlus mode_in (at (codes "m")) ≡ md → once 1 (count_in most_trees) (at (codes "k")) ≡ k
+  job_from : (md : Option Mode) (k w l b : Option ℕ) (t : Option AskedFor) → once MinPlus mode_in (at (codes "m")) ≡ md → once 1 (count_in most_trees) (at (codes "k")) ≡ k
       → once 1 (count_in most_workers) (at (codes "w")) ≡ w → once most_parts (count_in most_parts) (at (codes "limit")) ≡ l → once 0 beam_in (at (codes "beam")) ≡ b
       → task_in (at (codes "places")) ≡ t → job_of words ≡ asked_from md k w l b t
   job_from md k w l m t a b c d e f =

@@ -8,7 +8,7 @@ use std::collections::LinkedList;
 use tib_cost::Semiring;
 use tib_grammar::Rule;
 use tib_expand::{Edges, Expand, ExpandError};
-use tib_keyed::settled_side;
+use tib_key_edges::settled_side;
 
 impl<'a, S: Semiring> Expand for Parse<'a, S> {
     ghost use Rattle.std.specs.Prelude.{length};

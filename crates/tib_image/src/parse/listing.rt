@@ -5,7 +5,7 @@ ghost use Rattle.tib_lex.specs.Lists.{Each};
 ghost use Rattle.tib_tree.specs.Trees.{only, size};
 ghost use Rattle.tib_grammar.specs.Items.{holes_in};
 ghost use Rattle.tib_grammar.specs.Sides.{holes_of, HolesAreLeaves};
-ghost use Rattle.tib_keyed.specs.Listing.{IsAdded, IsWithinBudget, IsAlike};
+ghost use Rattle.tib_key_edges.specs.Listing.{IsAdded, IsWithinBudget, IsAlike};
 ghost use Rattle.tib_image.specs.ParseListing.{variable_key};
 
 use crate::parse::key::Key;
@@ -15,7 +15,7 @@ use tib_apply::Restrictions;
 use tib_cost::Cost;
 use tib_grammar::{Item, Side};
 use tib_expand::ExpandError;
-use tib_keyed::{SideListing, SideRule};
+use tib_key_edges::{SideListing, SideRule};
 use tib_transducer::Variable;
 
 /// Appends the key of the variable that an item may carry.

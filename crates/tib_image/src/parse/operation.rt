@@ -26,7 +26,7 @@ ghost use Rattle.tib_image.specs.ParseOperation.{IsKey, edge_parts};
 ghost use Rattle.tib_image.specs.ParseEdges.{edges_of};
 ghost use Rattle.tib_image.specs.ParseMoves.{IsMoves};
 ghost use Rattle.tib_image.specs.ParseLaws.{AreStatesBelow};
-ghost use Rattle.tib_keyed.specs.Listing.{IsWithinBudget};
+ghost use Rattle.tib_key_edges.specs.Listing.{IsWithinBudget};
 ghost use Rattle.tib_image.specs.ParseListing.{
   IsListed,
   Adds,

@@ -2,7 +2,7 @@ use Rattle.std.proofs.Common.{◌∙◌, arith, map}
 use Rattle.tib_lex.proofs.Lists.{length_map}
 use Rattle.tib_match.proofs.BoxSearch.{on_ok}
 use Rattle.tib_apply.specs.ForwardPlans.{end_at}
-use Rattle.tib_keyed.proofs.Added.{is_ready, is_added}
+use Rattle.tib_key_edges.proofs.Added.{is_ready, is_added}
 use Rattle.tib_apply.proofs.forward_listing.add_edge.Goals as goal
 
 pub add-requires : goal.add-requires

@@ -1,7 +1,7 @@
 use Rattle.std.proofs.Common.{arith, ap, ◌∙◌, length, set}
 use Rattle.std.proofs.lemmas.List.Edits.{map_over_more}
 use Rattle.tib_grammar.specs.Renaming.{number_in}
-use Rattle.tib_keyed.specs.Named.{named_transducer_rule}
+use Rattle.tib_key_edges.specs.Named.{named_transducer_rule}
 use Rattle.tib_canon.proofs.Renamed.{next_within, all_renamed}
 use Rattle.tib_canon.proofs.renaming.renamed_rules.Goals as goal
 

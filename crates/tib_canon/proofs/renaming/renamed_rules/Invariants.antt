@@ -1,6 +1,6 @@
 use Rattle.std.proofs.Common.{◌≡◌, ◌++◌, take, drop, map}
 use Rattle.tib_grammar.specs.Renaming.{number_in}
-use Rattle.tib_keyed.specs.Named.{named_transducer_rule}
+use Rattle.tib_key_edges.specs.Named.{named_transducer_rule}
 use Rattle.tib_canon.proofs.renaming.renamed_rules.Given as goal
 
 abbrev pub invariant-loop-n : goal.invariant-loop-n

@@ -3,7 +3,7 @@ use Rattle.std.proofs.lemmas.Result.{IfOk-weaker}
 use Rattle.tib_canon.proofs.OverKeys.{states_below, states_apart}
 use Rattle.tib_grammar.specs.Renaming.{number_in}
 use Rattle.tib_transducer.specs.Range.{AreWithin}
-use Rattle.tib_keyed.specs.Named.{named_transducer_rule}
+use Rattle.tib_key_edges.specs.Named.{named_transducer_rule}
 use Rattle.tib_inside.specs.Renaming.{AreNumbersOf}
 use Rattle.tib_canon.proofs.TransducerOverKeys.{over_keys}
 use Rattle.tib_canon.proofs.transducer_keys.over_keys.Goals as goal

@@ -1,5 +1,5 @@
 use Rattle.std.proofs.Common.{sym, ◌∙◌}
-use Rattle.tib_k_best_lists.proofs.Children.{many_holes}
+use Rattle.tib_ranked_trees.proofs.Children.{many_holes}
 use Rattle.tib_compare.proofs.moving.count_of.Goals as goal
 
 pub returns-clause-many : goal.returns-clause-many

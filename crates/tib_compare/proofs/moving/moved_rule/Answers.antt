@@ -3,7 +3,7 @@ use Rattle.std.proofs.Common.{arith, ap, sym, ◌∙◌}
 use Rattle.tib_lex.proofs.Lists.{length_map}
 use Rattle.tib_grammar.specs.Sides.{Side, Symbol, label, holes, over}
 use Rattle.tib_grammar.specs.declared.Rule.{Rule}
-use Rattle.tib_k_best_lists.specs.Levels.{root_of, states_of}
+use Rattle.tib_ranked_trees.specs.Levels.{root_of, states_of}
 use Rattle.tib_compare.specs.Beside.{moved}
 use Rattle.tib_compare.proofs.moving.moved_rule.Goals as goal
 

@@ -1,5 +1,5 @@
 use Rattle.std.proofs.Common.{◌≤◌}
-use Rattle.tib_keyed.specs.Positions.{shape_count}
+use Rattle.tib_key_edges.specs.Positions.{shape_count}
 use Rattle.tib_compose.specs.Readers.{HoldsReaders}
 use Rattle.tib_compose.proofs.index.index_rules.Given as goal
 

@@ -1,5 +1,5 @@
 use Rattle.std.proofs.Common.{◌≡◌, ◌+◌, ◌≤◌, ◌++◌, length, drop}
-use Rattle.tib_compose.specs.Listing.{placed, keys_in}
+use Rattle.tib_compose.specs.CompositionListing.{placed, keys_in}
 use Rattle.tib_compose.proofs.listing.place_items.Given as goal
 
 abbrev pub invariant-loop-item : goal.invariant-loop-item

@@ -2,7 +2,7 @@ use Rattle.std.proofs.Common.{◌≡◌, ◌<◌, ◌+◌, ◌-◌, ◌++◌, �
 use Rattle.std.proofs.lemmas.List.{length-map}
 use Rattle.tib_grammar.specs.Items.{pairs_of, pair_of}
 use Rattle.tib_grammar.specs.declared.Item.TheVariants.{Label}
-use Rattle.tib_keyed.specs.Pieces.{pieces_of}
+use Rattle.tib_key_edges.specs.Pieces.{pieces_of}
 use Rattle.tib_compose.specs.Ends.{AreEnds}
 use Rattle.tib_compose.specs.Pending.{Holds}
 use Rattle.tib_compose.specs.PieceViews.{kids_there, piece_of, piece_below}

@@ -1,7 +1,7 @@
 use Rattle.std.proofs.Common.{◌≤◌, ◌++◌, ℕ, List, length, drop}
 use Rattle.tib_grammar.specs.Items.{pairs_of}
 use Rattle.tib_transducer.specs.declared.TransducerRule.{TransducerRule}
-use Rattle.tib_keyed.specs.Pieces.{Piece as PieceOf, pieces_of}
+use Rattle.tib_key_edges.specs.Pieces.{Piece as PieceOf, pieces_of}
 use Rattle.tib_compose.specs.Pending.{Extends, Holds}
 use Rattle.tib_compose.specs.PieceViews.{AreKnown, kids_there}
 use Rattle.tib_compose.specs.Sources.{IsSource}

@@ -1,6 +1,6 @@
 use Rattle.std.proofs.Common.{◌≡◌, Err, refl, sym, ap, ◌∙◌, subst, Some, None, arith}
 use Rattle.tib_compose.specs.Branches.{IsAdvanced}
-use Rattle.tib_compose.specs.Listing.{IsTooMuch, IsAdded}
+use Rattle.tib_compose.specs.CompositionListing.{IsTooMuch, IsAdded}
 use Rattle.tib_compose.specs.declared.search.Search.{Search}
 use Rattle.tib_compose.proofs.Steps.{on_to_label, on_to_end, on_too_far}
 use Rattle.tib_compose.proofs.translating.go_on.Goals as goal

@@ -5,7 +5,7 @@ use Rattle.tib_transducer.specs.Range.{IsShaped}
 use Rattle.tib_transducer.specs.Rules.{transducer_rule, no_rule}
 use Rattle.tib_transducer.specs.declared.TransducerRule.{TransducerRule}
 use Rattle.tib_image.specs.Shapes.{has_shape, positions_with}
-use Rattle.tib_keyed.proofs.Places.{places-one}
+use Rattle.tib_key_edges.proofs.Places.{places-one}
 use Rattle.tib_image.proofs.index.index_rules.Goals as goal
 
 pub shape_of-requires-in-loop-n : goal.shape_of-requires-in-loop-n

@@ -1,5 +1,5 @@
 use Rattle.std.proofs.Common.{◌≡◌, ◌+◌, ◌-◌, ℕ, take, drop, arith, ap, ◌∙◌, length}
-use Rattle.tib_keyed.proofs.Ends.{ends_fit}
+use Rattle.tib_key_edges.proofs.Ends.{ends_fit}
 use Rattle.tib_intersect.proofs.Settled.{positions_are}
 use Rattle.tib_intersect.proofs.expand.states_at.Goals as goal
 

@@ -2,7 +2,7 @@ use Rattle.tib_grammar.specs.Run.{no_rule}
 use Rattle.std.proofs.lemmas.List.{get_or_read}
 use Rattle.tib_grammar.specs.ShapeBuckets.{same_shape}
 use Rattle.tib_intersect.specs.Matching.{has_shape}
-use Rattle.tib_keyed.proofs.Places.{places-one}
+use Rattle.tib_key_edges.proofs.Places.{places-one}
 use Rattle.tib_intersect.proofs.index.index_rules.Goals as goal
 
 pub loop-n-preserved : goal.loop-n-preserved

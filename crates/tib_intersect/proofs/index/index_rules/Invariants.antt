@@ -1,5 +1,5 @@
 use Rattle.std.proofs.Common.{ℕ, ◌≤◌, ◌≡◌, take}
-use Rattle.tib_keyed.specs.Positions.{positions_of, shape_count}
+use Rattle.tib_key_edges.specs.Positions.{positions_of, shape_count}
 use Rattle.tib_intersect.specs.Matching.{positions_with}
 use Rattle.tib_intersect.proofs.index.index_rules.Given as goal
 

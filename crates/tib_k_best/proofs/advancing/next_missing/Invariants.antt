@@ -1,6 +1,6 @@
 use Rattle.std.proofs.Common.{◌≤◌, length, ◌-◌}
 use Rattle.tib_grammar.specs.Run.{rule_at}
-use Rattle.tib_k_best_lists.specs.Levels.{states_of}
+use Rattle.tib_ranked_trees.specs.Levels.{states_of}
 use Rattle.tib_k_best.specs.Queues.{HasTrees}
 use Rattle.tib_k_best.proofs.advancing.next_missing.Given as goal
 

@@ -1,7 +1,7 @@
 use Rattle.std.specs.Prelude.{◌<◌}
 use Rattle.std.proofs.Common.{arith, refl, subst, sym}
 use Rattle.tib_grammar.specs.Forms.{IsDeterministic}
-use Rattle.tib_k_best_lists.specs.Levels.{IsOrderly}
+use Rattle.tib_ranked_trees.specs.Levels.{IsOrderly}
 use Rattle.tib_k_best.specs.Trimmed.{HaveTreesBelow}
 use Rattle.tib_k_best.proofs.Bests.{best_first, best_over, fault_cause}
 use Rattle.tib_k_best.proofs.Counting.{bound_first, fronts_first, fronts_same}

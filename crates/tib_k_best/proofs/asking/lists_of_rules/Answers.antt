@@ -1,7 +1,7 @@
 use Rattle.std.specs.Prelude.{◌<◌}
 use Rattle.std.proofs.Common.{subst, sym}
 use Rattle.tib_grammar.specs.Forms.{IsDeterministic}
-use Rattle.tib_k_best_lists.specs.ListsOf.{ListsOf}
+use Rattle.tib_ranked_trees.specs.ListsOf.{ListsOf}
 use Rattle.tib_k_best.specs.Trimmed.{HaveTreesBelow}
 use Rattle.tib_k_best.proofs.Bests.{best_listed}
 use Rattle.tib_k_best.proofs.Counting.{bound_listed, fronts_listed, states_listed}

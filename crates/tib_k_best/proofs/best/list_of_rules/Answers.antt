@@ -1,6 +1,6 @@
 use Rattle.std.specs.Prelude.{List}
 use Rattle.std.proofs.Common.{subst, sym}
-use Rattle.tib_k_best_lists.specs.Best.{Costed, IsKBest}
+use Rattle.tib_ranked_trees.specs.Best.{Costed, IsKBest}
 use Rattle.tib_k_best.proofs.best.list_of_rules.Goals as goal
 
 pub returns-in-Ok-clause-best : goal.returns-in-Ok-clause-best

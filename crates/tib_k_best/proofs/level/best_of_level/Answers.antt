@@ -4,7 +4,7 @@ use Rattle.tib_grammar.specs.Forms.{AreNormal}
 use Rattle.tib_grammar.specs.Range.{AreInRange}
 use Rattle.tib_grammar.specs.declared.Rule.{Rule}
 use Rattle.tib_grammar_file.specs.Printed.{AreLabelled}
-use Rattle.tib_k_best_lists.specs.Levels.{IsOrderly}
+use Rattle.tib_ranked_trees.specs.Levels.{IsOrderly}
 use Rattle.tib_k_best.proofs.Levelled.{level_few, level_labelled, level_normal, level_orderly, level_range}
 use Rattle.tib_k_best.proofs.level.best_of_level.Goals as goal
 

@@ -5,8 +5,8 @@ use Rattle.tib_grammar.specs.declared.Rule.{Rule}
 use Rattle.tib_grammar_file.specs.Printed.{AreLabelled}
 use Rattle.tib_k_best.specs.Causes.{IsCause}
 use Rattle.tib_k_best.specs.Trimmed.{HaveTreesBelow}
-use Rattle.tib_k_best_lists.specs.Best.{IsKBest}
-use Rattle.tib_k_best_lists.specs.Levels.{IsOrderly}
+use Rattle.tib_ranked_trees.specs.Best.{IsKBest}
+use Rattle.tib_ranked_trees.specs.Levels.{IsOrderly}
 use Rattle.tib_k_best.specs.Levels.{IsRenamed}
 use Rattle.tib_k_best.proofs.LevelTrimming.{trimmed_best, trimmed_cause, trimmed_labelled, trimmed_normal, trimmed_orderly, trimmed_trees}
 use Rattle.tib_k_best.proofs.level.best_of_useful.Goals as goal

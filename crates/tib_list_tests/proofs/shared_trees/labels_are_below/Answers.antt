@@ -1,8 +1,8 @@
 use Rattle.std.proofs.Common.{arith, sym, ◌∙◌, ◌∷◌, ◌≡◌, ℕ, List}
 use Rattle.std.specs.Prelude.{Some}
 use Rattle.std.proofs.lemmas.Option.{slice_get_within}
-use Rattle.tib_k_best_lists.specs.Numbers.{children_at}
-use Rattle.tib_k_best_lists.proofs.Callers.{one_more_root}
+use Rattle.tib_ranked_trees.specs.Numbers.{children_at}
+use Rattle.tib_ranked_trees.proofs.Callers.{one_more_root}
 use Rattle.tib_list_tests.proofs.shared_trees.labels_are_below.Goals as goal
 
 pub loop-i-preserved : goal.loop-i-preserved

@@ -1,5 +1,5 @@
 use Rattle.tib_command.specs.Jobs.{meaning}
-use Rattle.tib_job_files.proofs.Runs.{ended, performed}
+use Rattle.tib_job.proofs.Runs.{ended, performed}
 use Rattle.tib_run.proofs.alone.answer_job.Goals as goal
 
 pub returns-in-Err : goal.returns-in-Err

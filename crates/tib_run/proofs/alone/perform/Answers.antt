@@ -1,7 +1,7 @@
 use Rattle.std.proofs.Common.{Option, subst, sym, arith}
 use Rattle.tib_command.specs.Jobs.{Asked}
-use Rattle.tib_job_files.specs.Run.{IsRunOf, files_seen, sink_seen}
-use Rattle.tib_job_files.proofs.Runs.{no_command, no_memory}
+use Rattle.tib_job.specs.Run.{IsRunOf, files_seen, sink_seen}
+use Rattle.tib_job.proofs.Runs.{no_command, no_memory}
 use Rattle.tib_run.proofs.alone.perform.Goals as goal
 
 pub returns-in-Ok : goal.returns-in-Ok

@@ -1,4 +1,4 @@
-use Rattle.tib_job_files.proofs.Runs.{logged}
+use Rattle.tib_job.proofs.Runs.{logged}
 use Rattle.tib_run.proofs.command.run.Goals as goal
 
 pub returns-clause-log : goal.returns-clause-log

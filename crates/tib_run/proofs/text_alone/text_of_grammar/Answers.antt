@@ -1,8 +1,8 @@
 use Rattle.std.proofs.Common.{refl}
 use Rattle.tib_command.specs.declared.job.Operation.TheVariants as operations
-use Rattle.tib_job_files.specs.declared.job_values.Values.TheVariants as those
-use Rattle.tib_job_files.proofs.Outcomes.{outcome_of, printed_outcome, plain_outcome, kbest_outcome}
-use Rattle.tib_job_files.proofs.ReadValues.{asks, another}
+use Rattle.tib_job.specs.declared.job_values.Values.TheVariants as those
+use Rattle.tib_job.proofs.Outcomes.{outcome_of, printed_outcome, plain_outcome, kbest_outcome}
+use Rattle.tib_job.proofs.ReadValues.{asks, another}
 use Rattle.tib_run.proofs.text_alone.text_of_grammar.Goals as goal
 
 pub returns-in-Inside : goal.returns-in-Inside

@@ -1,8 +1,8 @@
 use Rattle.std.proofs.Common.{ap, refl, sym}
 use Rattle.std.specs.Prelude.{Some}
 use Rattle.tib_command.specs.declared.job.Operation.TheVariants as operations
-use Rattle.tib_job_files.proofs.Outcomes.{outcome_of, class_outcome, printed_outcome, demo_outcome, compare_outcome, parse_outcome}
-use Rattle.tib_job_files.proofs.ReadValues.{asked_for}
+use Rattle.tib_job.proofs.Outcomes.{outcome_of, class_outcome, printed_outcome, demo_outcome, compare_outcome, parse_outcome}
+use Rattle.tib_job.proofs.ReadValues.{asked_for}
 use Rattle.tib_run.proofs.text_together.text_together.Goals as goal
 
 pub returns-in-Determinize : goal.returns-in-Determinize

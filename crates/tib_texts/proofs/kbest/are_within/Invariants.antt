@@ -1,5 +1,5 @@
 use Rattle.std.proofs.Common.{ℕ, ◌<◌, ◌≤◌, get_or}
-use Rattle.tib_k_best_lists.specs.Pass.{no_entry}
+use Rattle.tib_ranked_trees.specs.Pass.{no_entry}
 use Rattle.tib_texts.proofs.kbest.are_within.Given as goal
 
 abbrev pub invariant-loop-i : goal.invariant-loop-i

@@ -4,7 +4,7 @@ use Rattle.std.proofs.lemmas.Option.{IfSome_then}
 use Rattle.std.proofs.lemmas.Result.{IfOk-weaker}
 use Rattle.tib_grammar.specs.GrammarOf.{GrammarOf}
 use Rattle.tib_grammar.specs.Series.{HasSameSeries}
-use Rattle.tib_k_best_lists.specs.Best.{IsKBest}
+use Rattle.tib_ranked_trees.specs.Best.{IsKBest}
 use Rattle.tib_grammar_file.specs.Printable.{ArePrintable}
 use Rattle.tib_texts.proofs.BestOf.{best_of_form, costs_free}
 use Rattle.tib_texts.proofs.kbest.kept_best.Goals as goal

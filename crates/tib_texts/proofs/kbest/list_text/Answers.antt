@@ -1,5 +1,5 @@
 use Rattle.std.proofs.Common.{ℕ, List, ◌++◌, ap, sym, ◌∙◌, arith, get_or}
-use Rattle.tib_k_best_lists.specs.Pass.{no_entry}
+use Rattle.tib_ranked_trees.specs.Pass.{no_entry}
 use Rattle.tib_operations.specs.KBest.{costed_line}
 use Rattle.tib_texts.proofs.BestOf.{costed_more}
 use Rattle.tib_texts.proofs.kbest.list_text.Goals as goal

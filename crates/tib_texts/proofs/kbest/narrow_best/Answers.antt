@@ -5,8 +5,8 @@ use Rattle.std.proofs.lemmas.Option.{IfSome_then}
 use Rattle.tib_lex.proofs.Lists.{Each-from}
 use Rattle.tib_grammar.specs.GrammarOf.{GrammarOf}
 use Rattle.tib_inside.specs.Inside.{IsInside}
-use Rattle.tib_k_best_lists.specs.Best.{Costed}
-use Rattle.tib_k_best_lists.specs.Pass.{no_entry}
+use Rattle.tib_ranked_trees.specs.Best.{Costed}
+use Rattle.tib_ranked_trees.specs.Pass.{no_entry}
 use Rattle.tib_texts.proofs.NarrowBest.{narrow}
 use Rattle.tib_operations.proofs.OfPrune.{kept_printable}
 use Rattle.tib_texts.proofs.kbest.narrow_best.Goals as goal

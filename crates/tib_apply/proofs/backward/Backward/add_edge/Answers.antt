@@ -5,7 +5,7 @@ use Rattle.tib_apply.specs.Restrictions.{restricted_labels}
 use Rattle.tib_apply.specs.BackwardLists.{edge_to}
 use Rattle.tib_apply.specs.Listing.{AddsEdge}
 use Rattle.tib_apply.proofs.BackwardEdges.{too_much}
-use Rattle.tib_keyed.proofs.MappedSides.{items_size}
+use Rattle.tib_key_edges.proofs.MappedSides.{items_size}
 use Rattle.tib_apply.proofs.backward.Backward.add_edge.Goals as goal
 
 pub returns-then-parts-list-clause-more : goal.returns-then-parts-list-clause-more

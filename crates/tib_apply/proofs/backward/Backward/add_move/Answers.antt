@@ -9,7 +9,7 @@ use Rattle.tib_apply.specs.Backward.{IsBackwardEdge}
 use Rattle.tib_apply.specs.BackwardLists.{backward_edge, IsCheap}
 use Rattle.tib_apply.specs.Listing.{IsListed, IsNext, IsTooMuch, Overruns}
 use Rattle.tib_apply.proofs.BackwardEdges.{move_more, as_many, match_listed, match_overruns, fresh_for, move_listed, move_refused, alike_on}
-use Rattle.tib_keyed.proofs.MappedSides.{items_size}
+use Rattle.tib_key_edges.proofs.MappedSides.{items_size}
 use Rattle.tib_apply.proofs.MoreParts.{same_fault}
 use Rattle.tib_apply.proofs.backward.Backward.add_move.Goals as goal
 

@@ -1,7 +1,7 @@
 use Rattle.std.proofs.Common.{◌<◌, length, get_or, arith, ap, sym, ◌∙◌, subst}
 use Rattle.tib_transducer.specs.Moves.{moves_of}
 use Rattle.tib_apply.specs.KeyGrammars.{key_at}
-use Rattle.tib_keyed.specs.Listing.{Overruns}
+use Rattle.tib_key_edges.specs.Listing.{Overruns}
 use Rattle.tib_apply.specs.TableEdges.{IsTableEdge}
 use Rattle.tib_apply.proofs.ForwardEdges.{none_listed, key_next, key_overruns, key_whole, move_here, moves_apart, itself_at, same_fault}
 use Rattle.tib_apply.proofs.forward.Forward.list_edges.Goals as goal

@@ -1,6 +1,6 @@
 use Rattle.std.proofs.Common.{◌≡◌, ◌<◌, ℕ, List, length, take}
 use Rattle.tib_apply.specs.KeyGrammars.{key_at}
-use Rattle.tib_keyed.specs.Listing.{IsWithinBudget}
+use Rattle.tib_key_edges.specs.Listing.{IsWithinBudget}
 use Rattle.tib_apply.specs.TableEdges.{IsTableEdge}
 use Rattle.tib_apply.proofs.ForwardEdges.{AreListedFor}
 use Rattle.tib_apply.proofs.forward.Forward.list_edges.Given as goal

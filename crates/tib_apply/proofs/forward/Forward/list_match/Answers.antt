@@ -4,7 +4,7 @@ use Rattle.tib_lex.specs.Lists.{Each}
 use Rattle.tib_transducer.specs.Rules.{no_rule, transducer_rule}
 use Rattle.tib_apply.specs.Restrictions.{restricted_labels}
 use Rattle.tib_apply.specs.ForwardPlans.{IsPlan, end_at}
-use Rattle.tib_keyed.specs.Listing.{IsAdded}
+use Rattle.tib_key_edges.specs.Listing.{IsAdded}
 use Rattle.tib_apply.proofs.ForwardEdges.{match_facts, origin_passed, origin_added, origin_overruns, rule_here, on_ok}
 use Rattle.tib_apply.proofs.forward.Forward.list_match.Goals as goal
 

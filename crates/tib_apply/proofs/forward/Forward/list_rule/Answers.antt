@@ -4,11 +4,11 @@ use Rattle.tib_tree.specs.Trees.{size}
 use Rattle.tib_match.specs.Searching.{AreMoreWhere}
 use Rattle.tib_transducer.specs.Rules.{no_rule, transducer_rule}
 use Rattle.tib_apply.specs.Restrictions.{Admits}
-use Rattle.tib_keyed.specs.Listing.{Overruns}
+use Rattle.tib_key_edges.specs.Listing.{Overruns}
 use Rattle.tib_apply.specs.KeyGrammars.{key_at}
 use Rattle.tib_apply.specs.TableEdges.{IsTableEdge}
 use Rattle.tib_apply.specs.ForwardLists.{IsAffordable}
-use Rattle.tib_keyed.proofs.MappedSides.{items_size}
+use Rattle.tib_key_edges.proofs.MappedSides.{items_size}
 use Rattle.tib_apply.proofs.MoreParts.{same_fault}
 use Rattle.tib_apply.proofs.ForwardEdges.{rule_more, rule_here, match_here, matches_here, rule_refused, rule_next, rule_overruns, rule_whole}
 use Rattle.tib_apply.proofs.forward.Forward.list_rule.Goals as goal

@@ -1,7 +1,7 @@
 use Rattle.std.proofs.Common.{◌≡◌, ◌<◌, ◌++◌, ℕ, List, length}
 use Rattle.tib_lex.specs.Lists.{Has}
 use Rattle.tib_apply.specs.KeyGrammars.{key_at}
-use Rattle.tib_keyed.specs.Listing.{IsListed, IsWithinBudget}
+use Rattle.tib_key_edges.specs.Listing.{IsListed, IsWithinBudget}
 use Rattle.tib_apply.specs.TableEdges.{IsTableEdge}
 use Rattle.tib_apply.proofs.ForwardEdges.{origins_of}
 use Rattle.tib_apply.proofs.forward.Forward.list_rule.Given as goal

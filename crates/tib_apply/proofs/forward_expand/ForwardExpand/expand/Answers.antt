@@ -2,9 +2,9 @@ use Rattle.std.proofs.Common.{◌≡◌, Err, ap, sym, ◌∙◌, subst}
 use Rattle.std.proofs.lemmas.List.{get_or_read}
 use Rattle.tib_apply.specs.KeyGrammars.{key_at}
 use Rattle.tib_apply.specs.ForwardLaws.{same_table_edge}
-use Rattle.tib_keyed.specs.Listing.{AreListedFrom, Overruns}
+use Rattle.tib_key_edges.specs.Listing.{AreListedFrom, Overruns}
 use Rattle.tib_apply.specs.TableEdges.{IsTableEdge}
-use Rattle.tib_keyed.proofs.Listed.{whole_listed, whole_ends, overruns_exceeds}
+use Rattle.tib_key_edges.proofs.Listed.{whole_listed, whole_ends, overruns_exceeds}
 use Rattle.tib_expand.specs.declared.place.ExpandError.{ExpandError}
 use Rattle.tib_apply.specs.ForwardRules.{ForwardListing}
 use Rattle.std.specs.declared.result.Result.{Result}

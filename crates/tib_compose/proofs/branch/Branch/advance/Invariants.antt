@@ -1,7 +1,7 @@
 use Rattle.std.proofs.Common.{◌≡◌, ℕ, List}
 use Rattle.tib_grammar.specs.Items.{pairs_of}
 use Rattle.tib_transducer.specs.declared.TransducerRule.{TransducerRule}
-use Rattle.tib_keyed.specs.Pieces.{Piece as PieceOf, GoesByPieces, results}
+use Rattle.tib_key_edges.specs.Pieces.{Piece as PieceOf, GoesByPieces, results}
 use Rattle.tib_compose.specs.Pending.{Holds}
 use Rattle.tib_compose.specs.Branches.{OnlyPutsOut}
 use Rattle.tib_compose.proofs.branch.Branch.advance.Given as goal

@@ -1,7 +1,7 @@
 use Rattle.std.proofs.Common.{refl, append-nil, ap, sym, ◌∙◌, ◌++◌, ◌∷◌, []}
 use Rattle.tib_grammar.specs.declared.Item.TheVariants.{Label, Hole}
 use Rattle.tib_grammar.specs.Items.{pairs_of}
-use Rattle.tib_keyed.specs.Pieces.{results}
+use Rattle.tib_key_edges.specs.Pieces.{results}
 use Rattle.tib_compose.specs.PieceViews.{piece_of, kids_there}
 use Rattle.tib_compose.proofs.Taking.{pair_taken, label_taken, put_taken}
 use Rattle.tib_compose.proofs.branch.Branch.take.Goals as goal

@@ -4,16 +4,16 @@ use Rattle.tib_expand.specs.declared.place.ExpandError.{ExpandError}
 use Rattle.tib_lex.specs.Lists.{Has, total}
 use Rattle.tib_transducer.specs.Moves.{moves_of}
 use Rattle.tib_transducer.proofs.Moves.{move_is}
-use Rattle.tib_keyed.specs.Composition.{edge_parts}
+use Rattle.tib_key_edges.specs.Composition.{edge_parts}
 use Rattle.tib_compose.specs.KeyEdges.{rule_edges}
-use Rattle.tib_compose.specs.Listing.{IsListing}
+use Rattle.tib_compose.specs.CompositionListing.{IsListing}
 use Rattle.tib_compose.specs.Searches.{all_of}
-use Rattle.tib_compose.specs.declared.listing.Listing.{Listing}
+use Rattle.tib_compose.specs.declared.listing.CompositionListing.{CompositionListing}
 use Rattle.tib_compose.proofs.Walking.{has_there}
 use Rattle.tib_compose.proofs.Whole.{rule_more, rules_all, rules_front}
 use Rattle.tib_compose.proofs.composite.Composite.list_edges.Goals as goal
 
-same_fault : (f : ExpandError) → ◌≡◌ {A = Result Listing ExpandError} (Err f) (Err ExpandError.More) → ◌≡◌ {A = Result (Unit {0}) ExpandError} (Err f) (Err ExpandError.More)
+same_fault : (f : ExpandError) → ◌≡◌ {A = Result CompositionListing ExpandError} (Err f) (Err ExpandError.More) → ◌≡◌ {A = Result (Unit {0}) ExpandError} (Err f) (Err ExpandError.More)
 same_fault f e = let is : f ≡ ExpandError.More = cc in ap Err is
 
 any_at : (xs : List ℕ) (i d e : ℕ) → i < length xs → get_or xs i d ≡ get_or xs i e

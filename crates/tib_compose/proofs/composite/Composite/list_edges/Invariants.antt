@@ -1,6 +1,6 @@
 use Rattle.std.proofs.Common.{◌≡◌, ◌<◌, ℕ, List, length, take, get_or}
 use Rattle.tib_compose.specs.KeyEdges.{rule_edges}
-use Rattle.tib_compose.specs.Listing.{IsListing, IsWithinBudget}
+use Rattle.tib_compose.specs.CompositionListing.{IsListing, IsWithinBudget}
 use Rattle.tib_compose.specs.Searches.{all_of}
 use Rattle.tib_compose.proofs.composite.Composite.list_edges.Given as goal
 

@@ -4,9 +4,9 @@ use Rattle.tib_lex.specs.Lists.{total}
 use Rattle.tib_tree.specs.Trees.{HasChildren, IsOneTree-preorder_of, preorder_of}
 use Rattle.tib_grammar.specs.Items.{pairs_of}
 use Rattle.tib_transducer.specs.Rules.{no_rule, transducer_rule}
-use Rattle.tib_keyed.specs.Composition.{edge_parts}
+use Rattle.tib_key_edges.specs.Composition.{edge_parts}
 use Rattle.tib_compose.specs.FlatSides.{IsFlatOver, flat_results}
-use Rattle.tib_compose.specs.Listing.{IsListing}
+use Rattle.tib_compose.specs.CompositionListing.{IsListing}
 use Rattle.tib_compose.specs.Readers.{readers_with}
 use Rattle.tib_compose.specs.Searches.{all_of}
 use Rattle.tib_compose.specs.Walk.{result_edges}

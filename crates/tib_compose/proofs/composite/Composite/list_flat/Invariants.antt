@@ -1,7 +1,7 @@
 use Rattle.std.proofs.Common.{◌≡◌, ◌++◌, [], ℕ, List, take}
 use Rattle.tib_transducer.specs.declared.TransducerRule.{TransducerRule}
 use Rattle.tib_compose.specs.FlatSides.{flat_results}
-use Rattle.tib_compose.specs.Listing.{IsListing, IsWithinBudget}
+use Rattle.tib_compose.specs.CompositionListing.{IsListing, IsWithinBudget}
 use Rattle.tib_compose.specs.Searches.{all_of}
 use Rattle.tib_compose.specs.Walk.{AreReady, result_edges}
 use Rattle.tib_compose.proofs.composite.Composite.list_flat.Given as goal

@@ -3,9 +3,9 @@ use Rattle.tib_lex.specs.Lists.{total}
 use Rattle.tib_cost.specs.Semiring.{cut}
 use Rattle.tib_tree.specs.Trees.{preorder_of}
 use Rattle.tib_transducer.specs.Rules.{no_rule, transducer_rule}
-use Rattle.tib_keyed.specs.Composition.{edge_parts}
+use Rattle.tib_key_edges.specs.Composition.{edge_parts}
 use Rattle.tib_compose.specs.FlatSides.{KeptOverruns, ListsKept}
-use Rattle.tib_compose.specs.Listing.{IsListing}
+use Rattle.tib_compose.specs.CompositionListing.{IsListing}
 use Rattle.tib_compose.specs.Walk.{result_edges}
 use Rattle.tib_compose.proofs.FlatEdges.{reader_kept}
 use Rattle.tib_compose.proofs.composite.Composite.list_reader.Goals as goal

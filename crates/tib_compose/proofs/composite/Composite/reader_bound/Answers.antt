@@ -2,8 +2,8 @@ use Rattle.std.proofs.Common.{◌≡◌, [], sym, ap, ◌∙◌, subst, le_refl,
 use Rattle.tib_transducer.specs.Rules.{no_rule, transducer_rule}
 use Rattle.tib_tree.specs.Trees.{preorder_of}
 use Rattle.tib_grammar.specs.Items.{pairs_of}
-use Rattle.tib_keyed.specs.Pieces.{pieces_of, sides_of, states_of}
-use Rattle.tib_keyed.specs.Translations.{choice_cost}
+use Rattle.tib_key_edges.specs.Pieces.{pieces_of, sides_of, states_of}
+use Rattle.tib_key_edges.specs.Translations.{choice_cost}
 use Rattle.tib_compose.specs.Pending.{IsAtLeast, Holds}
 use Rattle.tib_compose.specs.Bounding.{BoundsReader}
 use Rattle.tib_compose.proofs.Bounded.{reader_bounds}

@@ -7,12 +7,12 @@ use Rattle.tib_tree.specs.Trees.{preorder_of}
 use Rattle.tib_grammar.specs.Items.{pairs_of}
 use Rattle.tib_transducer.specs.Rules.{no_rule, transducer_rule}
 use Rattle.tib_transducer.specs.declared.TransducerRule.{TransducerRule}
-use Rattle.tib_keyed.specs.Composition.{edge_parts}
+use Rattle.tib_key_edges.specs.Composition.{edge_parts}
 use Rattle.tib_compose.specs.KeyEdges.{rule_edges, IsSourceOf}
-use Rattle.tib_compose.specs.Listing.{IsListing}
+use Rattle.tib_compose.specs.CompositionListing.{IsListing}
 use Rattle.tib_compose.specs.Walk.{AreReady, StepComes, IsOnBranch}
 use Rattle.tib_compose.specs.Searches.{Begins}
-use Rattle.tib_compose.specs.declared.listing.Listing.{Listing}
+use Rattle.tib_compose.specs.declared.listing.CompositionListing.{CompositionListing}
 use Rattle.tib_compose.specs.declared.search.Search.{Search}
 use Rattle.tib_compose.specs.declared.source.Source.{Source}
 use Rattle.tib_compose.proofs.FlatEdges.{are_ready, there}
@@ -21,7 +21,7 @@ use Rattle.tib_compose.proofs.composite.Composite.search_rule.Goals as goal
 
 -- the walk begins at a rule that was read
 begins_there :
-    (product : ℕ → ℕ → ℕ) (one two : List (TransducerRule ℕ)) (key : ℕ × ℕ) (n k : ℕ) (r : TransducerRule ℕ) (source : Source) (search : Search) (before : Listing) → AreReady product two → r ≡ transducer_rule one n → k ≡ key.1 →
+    (product : ℕ → ℕ → ℕ) (one two : List (TransducerRule ℕ)) (key : ℕ × ℕ) (n k : ℕ) (r : TransducerRule ℕ) (source : Source) (search : Search) (before : CompositionListing) → AreReady product two → r ≡ transducer_rule one n → k ≡ key.1 →
     IsSourceOf product two r source → Begins product r.cost k search → (order : List (ℕ × ℕ)) (es : List (TransducerRule (ℕ × ℕ))) → IsListing order key es before →
     IsOnBranch product two source r.left order key (es ++ rule_edges product one two key n) search before
 begins_there product one two key n k r source search before ready at same is begins order es lists =

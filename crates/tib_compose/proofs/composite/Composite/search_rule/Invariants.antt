@@ -2,7 +2,7 @@ use Rattle.std.proofs.Common.{◌≡◌, ◌++◌, ℕ, List}
 use Rattle.tib_transducer.specs.Rules.{transducer_rule}
 use Rattle.tib_transducer.specs.declared.TransducerRule.{TransducerRule}
 use Rattle.tib_compose.specs.KeyEdges.{rule_edges}
-use Rattle.tib_compose.specs.Listing.{IsListing, IsWithinBudget}
+use Rattle.tib_compose.specs.CompositionListing.{IsListing, IsWithinBudget}
 use Rattle.tib_compose.specs.Walk.{AreReady, IsUnderway}
 use Rattle.tib_compose.proofs.composite.Composite.search_rule.Given as goal
 

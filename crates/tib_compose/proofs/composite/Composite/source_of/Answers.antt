@@ -3,7 +3,7 @@ use Rattle.tib_tree.specs.Trees.{IsOneTree-preorder_of, HasChildren, preorder_of
 use Rattle.tib_grammar.specs.Items.{pairs_of}
 use Rattle.tib_grammar.specs.declared.Item.{Item}
 use Rattle.tib_transducer.specs.declared.Pair.{Pair}
-use Rattle.tib_keyed.specs.Translations.{choice_cost}
+use Rattle.tib_key_edges.specs.Translations.{choice_cost}
 use Rattle.tib_compose.specs.Pending.{IsAtLeast}
 use Rattle.tib_compose.proofs.composite.Composite.source_of.Goals as goal
 

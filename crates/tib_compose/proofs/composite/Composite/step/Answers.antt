@@ -5,7 +5,7 @@ use Rattle.tib_expand.specs.declared.place.ExpandError.{ExpandError}
 use Rattle.tib_compose.specs.Readers.{readers_with}
 use Rattle.tib_compose.specs.Walk.{IsRead}
 use Rattle.tib_compose.specs.Searches.{tried_more}
-use Rattle.tib_compose.specs.declared.search.Turn.{Turn}
+use Rattle.tib_compose.specs.declared.search.ReturnPoint.{ReturnPoint}
 use Rattle.tib_compose.proofs.Left.{beyond}
 use Rattle.tib_compose.proofs.Steps.{turn_ends, turn_alive, turn_dead}
 use Rattle.tib_compose.proofs.composite.Composite.step.Goals as goal
@@ -32,7 +32,7 @@ returns-then-not-alive-clause-steps g c = λ ready known order key all h.
     c.in-Some-get.position.now (subst (λ (xs : List ℕ). t.tried < length xs) are look.3.0) (ap (λ (xs : List ℕ). get_or xs t.tried 0) (sym are) ∙ sym (look.3.1 0))
     c.back_to.new.self.branch c.read.new.branch c.back_to.ensures.done c.back_to.ensures.tasks c.back_to.ensures.next
     c.again.new.self c.in-Ok-again.ensures.again.branch
-    (c.in-Ok-again.ensures.again.turns ∙ ap (λ (v : Vec Turn). v.items ++ tried_more t ∷ []) c.back_to.ensures.turns)
+    (c.in-Ok-again.ensures.again.turns ∙ ap (λ (v : Vec ReturnPoint). v.items ++ tried_more t ∷ []) c.back_to.ensures.turns)
     (subst (IsRead g.S.Semiring.product two c.args.source.now t c.in-Some-get.position.now c.back_to.new.self.branch c.read.new.branch) c.if-not-alive.true c.in-Ok.ensures.read)
 
 pub returns-in-Ok-go_on-clause-steps : goal.returns-in-Ok-go_on-clause-steps
@@ -47,7 +47,7 @@ returns-in-Ok-go_on-clause-steps g c = λ ready known order key all h.
     c.in-Some-get.position.now (subst (λ (xs : List ℕ). t.tried < length xs) are look.3.0) (ap (λ (xs : List ℕ). get_or xs t.tried 0) (sym are) ∙ sym (look.3.1 0))
     c.back_to.new.self.branch c.read.new.branch c.back_to.ensures.done c.back_to.ensures.tasks c.back_to.ensures.next
     c.again.new.self c.in-Ok-again.ensures.again.branch
-    (c.in-Ok-again.ensures.again.turns ∙ ap (λ (v : Vec Turn). v.items ++ tried_more t ∷ []) c.back_to.ensures.turns)
+    (c.in-Ok-again.ensures.again.turns ∙ ap (λ (v : Vec ReturnPoint). v.items ++ tried_more t ∷ []) c.back_to.ensures.turns)
     (subst (IsRead g.S.Semiring.product two c.args.source.now t c.in-Some-get.position.now c.back_to.new.self.branch c.read.new.branch) c.if-not-alive.false c.in-Ok.ensures.read))
 
 pub returns-in-Err-clause-more : goal.returns-in-Err-clause-more
@@ -62,5 +62,5 @@ returns-in-Err-clause-more g c = λ e ready known order key all h.
     c.in-Some-get.position.now (subst (λ (xs : List ℕ). t.tried < length xs) are look.3.0) (ap (λ (xs : List ℕ). get_or xs t.tried 0) (sym are) ∙ sym (look.3.1 0))
     c.back_to.new.self.branch c.read.new.branch c.back_to.ensures.done c.back_to.ensures.tasks c.back_to.ensures.next
     c.again.new.self c.in-Ok-again.ensures.again.branch
-    (c.in-Ok-again.ensures.again.turns ∙ ap (λ (v : Vec Turn). v.items ++ tried_more t ∷ []) c.back_to.ensures.turns)
+    (c.in-Ok-again.ensures.again.turns ∙ ap (λ (v : Vec ReturnPoint). v.items ++ tried_more t ∷ []) c.back_to.ensures.turns)
     (subst (IsRead g.S.Semiring.product two c.args.source.now t c.in-Some-get.position.now c.back_to.new.self.branch c.read.new.branch) c.if-not-alive.false c.in-Ok.ensures.read))

@@ -1,17 +1,17 @@
 use Rattle.std.proofs.Common.{◌≡◌, ◌<◌, Err, ap, sym, ◌∙◌, subst}
 use Rattle.std.proofs.lemmas.List.{get_or_read}
 use Rattle.tib_lex.specs.Lists.{total}
-use Rattle.tib_keyed.specs.Choices.{edges_of}
-use Rattle.tib_keyed.specs.Composition.{edge_parts}
-use Rattle.tib_compose.specs.Listing.{IsListing}
+use Rattle.tib_key_edges.specs.Choices.{edges_of}
+use Rattle.tib_key_edges.specs.Composition.{edge_parts}
+use Rattle.tib_compose.specs.CompositionListing.{IsListing}
 use Rattle.tib_compose.proofs.Expanded.{whole_listed, whole_ends, overruns_exceeds}
 use Rattle.tib_expand.specs.declared.place.ExpandError.{ExpandError}
-use Rattle.tib_compose.specs.declared.listing.Listing.{Listing}
+use Rattle.tib_compose.specs.declared.listing.CompositionListing.{CompositionListing}
 use Rattle.std.specs.declared.result.Result.{Result}
-use Rattle.tib_keyed.specs.Ends.{key_at}
+use Rattle.tib_key_edges.specs.Ends.{key_at}
 use Rattle.tib_compose.proofs.expand.CompositeExpand.expand.Goals as goal
 
-fault_is : (f : ExpandError) → f ≡ ExpandError.More → ◌≡◌ {A = Result Listing ExpandError} (Err f) (Err ExpandError.More)
+fault_is : (f : ExpandError) → f ≡ ExpandError.More → ◌≡◌ {A = Result CompositionListing ExpandError} (Err f) (Err ExpandError.More)
 fault_is f e = ap Err e
 
 pub returns-in-Ok-clause-listed : goal.returns-in-Ok-clause-listed

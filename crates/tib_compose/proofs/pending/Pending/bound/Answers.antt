@@ -1,6 +1,6 @@
 use Rattle.std.proofs.Common.{◌≡◌, ◌<◌, ◌-◌, length, arith, refl, sym, ap, ◌∙◌, subst}
 use Rattle.tib_compose.specs.Pending.{task_at}
-use Rattle.tib_compose.specs.declared.pending.Task.{Task}
+use Rattle.tib_compose.specs.declared.pending.PendingPiece.{PendingPiece}
 use Rattle.tib_compose.proofs.Left.{next_left, none_left, none_bounds, one_left}
 use Rattle.tib_compose.proofs.pending.Pending.bound.Goals as goal
 

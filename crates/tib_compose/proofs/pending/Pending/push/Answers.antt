@@ -1,7 +1,7 @@
 use Rattle.std.proofs.Common.{◌≡◌, ◌∷◌, arith, refl, sym, ap, ◌∙◌, subst}
 use Rattle.tib_compose.specs.Pending.{BoundsAll}
 use Rattle.tib_compose.specs.PieceViews.{piece_of}
-use Rattle.tib_keyed.specs.Pieces.{Piece as PieceOf}
+use Rattle.tib_key_edges.specs.Pieces.{Piece as PieceOf}
 use Rattle.tib_compose.proofs.Left.{task_put, piece_bounds}
 use Rattle.tib_compose.proofs.pending.Pending.push.Goals as goal
 

@@ -1,5 +1,5 @@
 use Rattle.std.proofs.Common.{◌≡◌, refl, sym, ap, ◌∙◌, subst, Some, [], arith}
-use Rattle.tib_keyed.specs.Translations.{choice_cost}
+use Rattle.tib_key_edges.specs.Translations.{choice_cost}
 use Rattle.tib_compose.specs.Pending.{IsAtLeast}
 use Rattle.tib_compose.proofs.search.Search.new.Goals as goal
 

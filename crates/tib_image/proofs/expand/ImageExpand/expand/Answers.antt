@@ -3,11 +3,11 @@ use Rattle.std.proofs.lemmas.List.{get_or_read}
 use Rattle.tib_image.specs.Image.{IsImageEdge}
 use Rattle.tib_image.specs.Laws.{same_edge}
 use Rattle.tib_image.specs.Listing.{Listing}
-use Rattle.tib_keyed.specs.Listing.{AreListedFrom, Overruns}
-use Rattle.tib_keyed.proofs.Listed.{whole_listed, whole_ends, overruns_exceeds}
+use Rattle.tib_key_edges.specs.Listing.{AreListedFrom, Overruns}
+use Rattle.tib_key_edges.proofs.Listed.{whole_listed, whole_ends, overruns_exceeds}
 use Rattle.tib_expand.specs.declared.place.ExpandError.{ExpandError}
 use Rattle.std.specs.declared.result.Result.{Result}
-use Rattle.tib_keyed.specs.Ends.{key_at}
+use Rattle.tib_key_edges.specs.Ends.{key_at}
 use Rattle.tib_image.proofs.expand.ImageExpand.expand.Goals as goal
 
 fault_is : (f : ExpandError) → f ≡ ExpandError.More → ◌≡◌ {A = Result Listing ExpandError} (Err f) (Err ExpandError.More)

@@ -1,5 +1,5 @@
 use Rattle.std.proofs.Common.{ℕ, arith, length}
-use Rattle.tib_keyed.proofs.Settled.{ends_there, settled_reads, settled_positions}
+use Rattle.tib_key_edges.proofs.Settled.{ends_there, settled_reads, settled_positions}
 use Rattle.tib_image.proofs.expand.ImageExpand.settle.Goals as goal
 
 pub settled_side-requires : goal.settled_side-requires

@@ -1,11 +1,11 @@
 use Rattle.std.proofs.Common.{◌<◌, refl, length, get_or, arith, ap, sym, ◌∙◌, subst}
 use Rattle.tib_apply.proofs.ForwardEdges.{same_fault}
 use Rattle.tib_tree.specs.Trees.{count}
-use Rattle.tib_keyed.specs.Ends.{key_at}
+use Rattle.tib_key_edges.specs.Ends.{key_at}
 use Rattle.tib_image.specs.Nodes.{subtree}
 use Rattle.tib_image.specs.Image.{IsImageEdge}
-use Rattle.tib_keyed.specs.Listing.{Overruns}
-use Rattle.tib_keyed.proofs.Listed.{listed_first}
+use Rattle.tib_key_edges.specs.Listing.{Overruns}
+use Rattle.tib_key_edges.proofs.Listed.{listed_first}
 use Rattle.tib_image.proofs.Listed.{key_next, key_overruns, key_whole}
 use Rattle.tib_image.proofs.Edging.{all_stand, apart, rule_here}
 use Rattle.tib_image.proofs.operation.Image.list_edges.Goals as goal

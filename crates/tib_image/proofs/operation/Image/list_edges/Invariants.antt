@@ -1,7 +1,7 @@
 use Rattle.std.proofs.Common.{◌≡◌, ◌<◌, ℕ, List, length, take}
-use Rattle.tib_keyed.specs.Ends.{key_at}
+use Rattle.tib_key_edges.specs.Ends.{key_at}
 use Rattle.tib_image.specs.Image.{IsImageEdge}
-use Rattle.tib_keyed.specs.Listing.{IsListed, IsWithinBudget}
+use Rattle.tib_key_edges.specs.Listing.{IsListed, IsWithinBudget}
 use Rattle.tib_image.proofs.operation.Image.list_edges.Given as goal
 
 abbrev pub invariant-loop-rule_position : goal.invariant-loop-rule_position

@@ -6,7 +6,7 @@ use Rattle.tib_grammar.specs.Sides.{holes_of}
 use Rattle.tib_transducer.specs.Rules.{no_rule}
 use Rattle.tib_apply.proofs.ForwardEdges.{rule_here, on_ok}
 use Rattle.tib_image.specs.Image.{pair_key}
-use Rattle.tib_keyed.specs.Listing.{IsAdded}
+use Rattle.tib_key_edges.specs.Listing.{IsAdded}
 use Rattle.tib_image.specs.Walk.{walk}
 use Rattle.tib_image.proofs.Walking.{nodes_many}
 use Rattle.tib_image.proofs.Edging.{known, added, overruns, passed}

@@ -5,7 +5,7 @@ use Rattle.tib_grammar.specs.Sides.{holes_of}
 use Rattle.tib_grammar.proofs.Holes.{holes_of_items}
 use Rattle.tib_match.proofs.BoxSearch.{on_ok}
 use Rattle.tib_image.specs.ParseListing.{variable_key}
-use Rattle.tib_keyed.proofs.Added.{is_ready, is_added}
+use Rattle.tib_key_edges.proofs.Added.{is_ready, is_added}
 use Rattle.tib_image.proofs.parse.listing.add_edge.Goals as goal
 
 pub push_ends-requires : goal.push_ends-requires

@@ -5,7 +5,7 @@ use Rattle.tib_strings.specs.Rules.{pairs_of}
 use Rattle.tib_strings.specs.declared.Word.{Word as Token}
 use Rattle.tib_strings.specs.Cuts.{spans}
 use Rattle.tib_image.specs.Parsing.{parse_key}
-use Rattle.tib_keyed.specs.Listing.{IsAdded}
+use Rattle.tib_key_edges.specs.Listing.{IsAdded}
 use Rattle.tib_image.proofs.ParseListed.{adds_edge, overruns_edge, both_ok}
 use Rattle.tib_image.proofs.Spanned.{keys_same, spans_at}
 use Rattle.tib_image.proofs.parse.operation.add_cut.Goals as goal

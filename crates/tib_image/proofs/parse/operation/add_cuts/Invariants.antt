@@ -1,6 +1,6 @@
 use Rattle.std.proofs.Common.{◌≡◌, length}
 use Rattle.tib_strings.specs.Remaining.{IsSearch, remaining}
-use Rattle.tib_keyed.specs.Listing.{IsWithinBudget}
+use Rattle.tib_key_edges.specs.Listing.{IsWithinBudget}
 use Rattle.tib_image.specs.ParseListing.{AreDone}
 use Rattle.tib_image.proofs.parse.operation.add_cuts.Given as goal
 

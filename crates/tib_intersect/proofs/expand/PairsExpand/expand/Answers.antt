@@ -2,11 +2,11 @@ use Rattle.std.proofs.Common.{◌≡◌, ap, sym, ◌∙◌, Err}
 use Rattle.std.specs.declared.result.Result.{Result}
 use Rattle.std.proofs.lemmas.List.{get_or_read}
 use Rattle.tib_expand.specs.declared.place.ExpandError.{ExpandError}
-use Rattle.tib_intersect.specs.declared.listing.Listing.{Listing}
+use Rattle.tib_intersect.specs.declared.listing.PairListing.{PairListing}
 use Rattle.tib_intersect.proofs.Whole.{whole_listed, whole_ends, overruns_exceeds}
 use Rattle.tib_intersect.proofs.expand.PairsExpand.expand.Goals as goal
 
-fault_is : (f : ExpandError) → f ≡ ExpandError.More → ◌≡◌ {A = Result Listing ExpandError} (Err f) (Err ExpandError.More)
+fault_is : (f : ExpandError) → f ≡ ExpandError.More → ◌≡◌ {A = Result PairListing ExpandError} (Err f) (Err ExpandError.More)
 fault_is f e = ap Err e
 
 pub returns-in-Ok-clause-listed : goal.returns-in-Ok-clause-listed

@@ -6,13 +6,13 @@ use Rattle.tib_expand.specs.declared.place.ExpandError.{ExpandError}
 use Rattle.tib_grammar.specs.GrammarOf.{GrammarOf}
 use Rattle.tib_grammar.specs.Forms.{AreNormal}
 use Rattle.tib_intersect.specs.Matching.{positions_with}
-use Rattle.tib_keyed.specs.Ends.{key_at as pair_at}
-use Rattle.tib_intersect.specs.declared.listing.Listing.{Listing}
-use Rattle.tib_intersect.specs.Listing.{Overruns}
+use Rattle.tib_key_edges.specs.Ends.{key_at as pair_at}
+use Rattle.tib_intersect.specs.declared.listing.PairListing.{PairListing}
+use Rattle.tib_intersect.specs.PairListing.{Overruns}
 use Rattle.tib_intersect.proofs.Matches.{AreListedFor, positions_of, rule_in, rule_normal, matches_fit, matches_distinct, stands_here, fresh_here, listed_here, listed_all}
 use Rattle.tib_intersect.proofs.pairs.Pairs.list_edges.Goals as goal
 
-same_fault : (f : ExpandError) → ◌≡◌ {A = Result Listing ExpandError} (Err f) (Err ExpandError.More) → ◌≡◌ {A = Result (Unit {0}) ExpandError} (Err f) (Err ExpandError.More)
+same_fault : (f : ExpandError) → ◌≡◌ {A = Result PairListing ExpandError} (Err f) (Err ExpandError.More) → ◌≡◌ {A = Result (Unit {0}) ExpandError} (Err f) (Err ExpandError.More)
 same_fault f e = let same : f ≡ ExpandError.More = cc e in ap Err same
 
 pub root-label-requires : goal.root-label-requires

@@ -1,6 +1,6 @@
 use Rattle.std.proofs.Common.{◌≡◌, ◌<◌, ℕ, List, length, take}
-use Rattle.tib_keyed.specs.Ends.{key_at as pair_at}
-use Rattle.tib_intersect.specs.Listing.{IsWithinBudget}
+use Rattle.tib_key_edges.specs.Ends.{key_at as pair_at}
+use Rattle.tib_intersect.specs.PairListing.{IsWithinBudget}
 use Rattle.tib_intersect.proofs.Matches.{AreListedFor, positions_of}
 use Rattle.tib_intersect.proofs.pairs.Pairs.list_edges.Given as goal
 

@@ -1,9 +1,9 @@
 use Rattle.std.specs.Prelude.{ℕ, List}
 use Rattle.std.proofs.Common.{subst, sym}
 use Rattle.tib_lex.specs.Lists.{Has}
-use Rattle.tib_k_best_lists.specs.Heaps.{IsHeap, Adds}
-use Rattle.tib_k_best_lists.specs.ListsOf.{ListsOf}
-use Rattle.tib_k_best_lists.specs.Held.{offers_cmp, stands_for, IsKnownBy}
+use Rattle.tib_ranked_trees.specs.Heaps.{IsHeap, Adds}
+use Rattle.tib_ranked_trees.specs.ListsOf.{ListsOf}
+use Rattle.tib_ranked_trees.specs.Held.{offers_cmp, stands_for, IsKnownBy}
 use Rattle.tib_k_best.specs.QueueOf.{QueueOf}
 use Rattle.tib_k_best.specs.Queues.{IsQueue}
 use Rattle.tib_k_best.proofs.Beginning.{tuple_put, too_dear, begins, queue_on_ok}

@@ -1,8 +1,8 @@
 use Rattle.std.specs.Prelude.{ℕ}
 use Rattle.std.proofs.Common.{subst, sym}
 use Rattle.tib_lex.specs.Lists.{Has}
-use Rattle.tib_k_best_lists.specs.Heaps.{IsHeap}
-use Rattle.tib_k_best_lists.specs.Held.{offers_cmp, stands_for, IsKnownBy}
+use Rattle.tib_ranked_trees.specs.Heaps.{IsHeap}
+use Rattle.tib_ranked_trees.specs.Held.{offers_cmp, stands_for, IsKnownBy}
 use Rattle.tib_k_best.specs.QueueOf.{QueueOf}
 use Rattle.tib_k_best.proofs.Starting.{heap_known, takes_least}
 use Rattle.tib_k_best.proofs.queue.Queue.pop_least.Goals as goal

@@ -1,5 +1,5 @@
 use Rattle.std.specs.Prelude.{◌≡◌, ℕ, ◌<◌, ◌≤◌, [], length}
-use Rattle.tib_k_best_lists.specs.Held.{list_of}
+use Rattle.tib_ranked_trees.specs.Held.{list_of}
 use Rattle.tib_k_best.specs.QueueOf.{waiting_at}
 use Rattle.tib_k_best.specs.Queues.{IsQueue, StaysSame, left_over}
 use Rattle.tib_k_best.proofs.queue.Queue.release.Given as goal

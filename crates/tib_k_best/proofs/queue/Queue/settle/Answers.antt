@@ -3,9 +3,9 @@ use Rattle.std.proofs.Common.{arith, ap, subst, sym, ◌∙◌}
 use Rattle.std.proofs.lemmas.List.{length-map}
 use Rattle.tib_tree.specs.Trees.{size}
 use Rattle.tib_grammar.specs.Run.{rule_at}
-use Rattle.tib_k_best_lists.specs.Best.{HasLarge}
-use Rattle.tib_k_best_lists.specs.Held.{list_of, told, entries_of, stands_for}
-use Rattle.tib_k_best_lists.specs.declared.lists.Candidate.{Candidate}
+use Rattle.tib_ranked_trees.specs.Best.{HasLarge}
+use Rattle.tib_ranked_trees.specs.Held.{list_of, told, entries_of, stands_for}
+use Rattle.tib_ranked_trees.specs.declared.lists.Candidate.{Candidate}
 use Rattle.tib_k_best.specs.Queues.{state_of}
 use Rattle.tib_k_best.proofs.Settled.{dropped, is_next, listed_queue}
 use Rattle.tib_k_best.proofs.queue.Queue.settle.Goals as goal

@@ -1,5 +1,5 @@
 use Rattle.std.proofs.Common.{arith, subst, sym}
-use Rattle.tib_k_best_lists.specs.Levels.{IsOrderly}
+use Rattle.tib_ranked_trees.specs.Levels.{IsOrderly}
 use Rattle.tib_k_best.proofs.Starting.{cause_among, firsts_end}
 use Rattle.tib_k_best.proofs.queue.Queue.settle_all.Goals as goal
 

@@ -10,7 +10,7 @@ use Rattle.tib_grammar.specs.Sides.{holes_of}
 use Rattle.tib_image.specs.Restrictions.{restricted_labels}
 use Rattle.tib_image.specs.Parsing.{first_key, IsParseEdge}
 use Rattle.tib_image.specs.ParseOperation.{IsKey, edge_parts}
-use Rattle.tib_keyed.specs.SideRules.{places_of, read_places}
+use Rattle.tib_key_edges.specs.SideRules.{places_of, read_places}
 use Rattle.tib_image.specs.ParseListing.{Listing}
 use Rattle.tib_image.proofs.Reading.{whole_listed, whole_ends, overruns_exceeds}
 use Rattle.tib_image.proofs.parse.expand.ParseExpand.expand.Goals as goal

@@ -5,7 +5,7 @@ use Rattle.tib_tree.specs.Trees.{size}
 use Rattle.tib_strings.specs.Rules.{string_rule, no_rule}
 use Rattle.tib_strings.specs.Range.{IsShaped}
 use Rattle.tib_strings.specs.declared.StringRule.{StringRule}
-use Rattle.tib_keyed.proofs.MappedSides.{items_size}
+use Rattle.tib_key_edges.proofs.MappedSides.{items_size}
 use Rattle.tib_strings.specs.Remaining.{FindsCuts}
 use Rattle.tib_image.specs.ParseListing.{Adds, Overruns, cut_edge}
 use Rattle.tib_image.proofs.ParseListed.{adds_none}

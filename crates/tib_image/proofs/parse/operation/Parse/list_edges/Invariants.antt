@@ -1,5 +1,5 @@
 use Rattle.std.proofs.Common.{◌≡◌, take}
-use Rattle.tib_keyed.specs.Listing.{IsWithinBudget}
+use Rattle.tib_key_edges.specs.Listing.{IsWithinBudget}
 use Rattle.tib_image.specs.ParseListing.{IsListed, edges_at_all}
 use Rattle.tib_image.proofs.parse.operation.Parse.list_edges.Given as goal
 

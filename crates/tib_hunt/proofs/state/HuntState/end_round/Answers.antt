@@ -1,0 +1,28 @@
+use Rattle.std.proofs.Common.{◌++◌, ◌<◌, length, map, sym, subst, arith}
+use Rattle.tib_lex.specs.Lists.{Each, Distinct}
+use Rattle.tib_hunt.specs.Numbered.{keys_of}
+use Rattle.tib_hunt.specs.Rows.{IsRowBelow}
+use Rattle.tib_hunt.specs.Shelved.{placed_row}
+use Rattle.tib_expand.proofs.Reaching.{hunt_of}
+use Rattle.tib_hunt.proofs.Advancing.{few_keys}
+use Rattle.tib_hunt.proofs.Finding.{fresh_round_ends}
+use Rattle.tib_hunt.proofs.state.HuntState.end_round.Goals as goal
+
+pub take_round-requires-clause-lacked : goal.take_round-requires-clause-lacked
+take_round-requires-clause-lacked g c e = absurd e
+
+pub settle_fresh-requires-clause-few : goal.settle_fresh-requires-clause-few
+settle_fresh-requires-clause-few g c =
+    let few = few_keys (hunt_of (g.met.E.Expand.lawful c.args.problem.now) g.met.E.Key.Ord.total g.met.E.Key.TableKey.same g.met.E.Key.Eq.laws.refl) c.in-Ok.ensures.within.held in
+    let l = c.requires.limit in
+    subst (λ o. length (o ++ keys_of c.in-Ok.taken.fresh.items) < 4294967296) (sym c.in-Ok.ensures.order) (omega arith)
+
+pub settle_fresh-requires-clause-distinct : goal.settle_fresh-requires-clause-distinct
+settle_fresh-requires-clause-distinct g c = subst (λ o. Distinct (o ++ keys_of c.in-Ok.taken.fresh.items)) (sym c.in-Ok.ensures.order) c.in-Ok.ensures.within.held.once
+
+pub settle_fresh-requires-clause-below : goal.settle_fresh-requires-clause-below
+settle_fresh-requires-clause-below g c = subst (λ o. Each (IsRowBelow g.E.Expand.reading.places (length o) (length (o ++ keys_of c.in-Ok.taken.fresh.items))) (map (placed_row (map (λ v. v.items) c.in-Ok.taken.positions.items)) c.in-Ok.taken.rows.items)) (sym c.in-Ok.ensures.order) c.in-Ok.ensures.within.held.rows_below
+
+pub returns-clause-between : goal.returns-clause-between
+returns-clause-between g c = fresh_round_ends (hunt_of (g.met.E.Expand.lawful c.args.problem.now) g.met.E.Key.Ord.total g.met.E.Key.TableKey.same g.met.E.Key.Eq.laws.refl) c.args.self.now.keys.keys (keys_of c.in-Ok.taken.fresh.items) c.args.first c.take_round.new.self.rules.items (map (placed_row (map (λ v. v.items) c.in-Ok.taken.positions.items)) c.in-Ok.taken.rows.items) c.take_round.new.self.parts c.args.limit c.in-Ok.ensures.within
+    c.take_round.new.self.keys.keys c.settle_fresh.new.self.keys.keys c.settle_fresh.new.self.rules.items c.settle_fresh.new.self.parts c.in-Ok.ensures.order c.in-Ok-settle_fresh.ensures.parts c.in-Ok-settle_fresh.ensures.settled

@@ -1,0 +1,79 @@
+//! A round of few items, on one list of keys: it opens no shelves.
+
+ghost use Rattle.std.specs.Prelude.{◌≡◌, ◌≤◌, [], length, map, IfErr, OnOk};
+ghost use Rattle.tib_expand.specs.Reached.{IfTooMany, IsBeyond, most_parts};
+ghost use Rattle.tib_hunt.specs.Rows.{numbered};
+ghost use Rattle.tib_hunt.specs.States.{IsBetweenRounds, IsExpanded};
+
+use tib_expand::Expand;
+use tib_expand::Gate;
+use crate::state::HuntState;
+use tib_expand::ExpandError;
+use std::alloc::Global;
+use tib_expand::{HuntError, TableKey};
+
+// Expands the positions of the order from `first` on. Their ends are numbered on from the order, as
+// they are found.
+fn expand_few<E: Expand, G: Gate>(
+    state: &mut HuntState<E>,
+    alloc: Global,
+    problem: &E,
+    limit: u64,
+    gate: &G,
+    first: u32,
+) -> Result<(), HuntError>
+    requires limit { limit ≤ most_parts }
+    requires between { IsBetweenRounds (E.hunted problem.now) (E.admits problem.now) E.reading first
+        limit state.old }
+    requires rows { state.old.rows.items ≡ [] }
+    ensures within { OnOk result (IsExpanded (E.hunted problem.now) (E.admits problem.now) E.reading
+        state.old.keys.keys first limit state.new.keys.keys (map numbered state.new.rows.items)
+        state.new) }
+    ensures more { IfErr result (IfTooMany limit (IsBeyond (E.hunted problem.now) limit)) }
+{
+    let bound = state.keys.len();
+    for n in first..bound as u32 {
+        gate.pass(0, n);
+        let order = &state.keys.as_slice()[..bound];
+        let edges = match problem.expand(alloc, order, n, limit - state.parts) {
+            Ok(edges) => edges,
+            Err(ExpandError::More) => return Err(HuntError::TooMany { limit }),
+            Err(ExpandError::OutOfMemory) => return Err(HuntError::OutOfMemory),
+        };
+        match state.add_edges(alloc, limit, edges) {
+            Ok(()) => {}
+            Err(error) => return Err(error),
+        }
+    }
+    Ok(())
+}
+
+/// Expands the positions from `first` on, and appends their new ends in ascending order. `TooMany`
+/// only if the reached set passes the limit, `OutOfMemory` if memory is refused.
+pub(crate) fn round_of_few<E: Expand, G: Gate>(
+    state: &mut HuntState<E>,
+    alloc: Global,
+    problem: &E,
+    limit: u64,
+    gate: &G,
+    first: u32,
+) -> Result<(), HuntError>
+    requires limit { limit ≤ most_parts }
+    requires between { IsBetweenRounds (E.hunted problem.now) (E.admits problem.now) E.reading first
+        limit state.old }
+    requires rows { state.old.rows.items ≡ [] }
+    ensures between { OnOk result (IsBetweenRounds (E.hunted problem.now) (E.admits problem.now)
+        E.reading (length state.old.keys.keys) limit state.new) }
+    ensures rows { OnOk result (state.new.rows.items ≡ []) }
+    ensures more { IfErr result (IfTooMany limit (IsBeyond (E.hunted problem.now) limit)) }
+{
+    let order = state.keys.len() as u32;
+    match expand_few(state, alloc, problem, limit, gate, first) {
+        Ok(()) => {}
+        Err(error) => return Err(error),
+    }
+    let Ok(()) = state.settle(alloc, problem, order) else {
+        return Err(HuntError::OutOfMemory);
+    };
+    Ok(())
+}

@@ -1,0 +1,84 @@
+//! One round of a hunt, from its first item to its keys in order, by one worker or by several.
+
+ghost use Rattle.std.specs.Prelude.{◌≡◌, ◌≤◌, [], length, IfErr, OnOk};
+ghost use Rattle.tib_expand.specs.Reached.{IfTooMany, IsBeyond, most_parts};
+ghost use Rattle.tib_hunt.specs.States.{IsBetweenRounds};
+
+use tib_expand::Expand;
+use crate::listed_round::round_of_few;
+use tib_expand::Gate;
+use crate::state::HuntState;
+use crate::worker_round::work_together;
+use crate::shelved_round::work_round;
+use std::alloc::Global;
+use std::sync::Wait;
+use std::thread::Threads;
+use tib_expand::HuntError;
+
+/// Works the round that begins at the position `first` by one worker, on shelves if it has at least
+/// `many` items, and otherwise on one list. The outcome is the same. `TooMany` only if the reached
+/// set passes the limit, `OutOfMemory` if memory is refused.
+pub(crate) fn round_alone<E: Expand, G: Gate>(
+    state: &mut HuntState<E>,
+    alloc: Global,
+    problem: &E,
+    limit: u64,
+    many: usize,
+    gate: &G,
+    first: u32,
+) -> Result<(), HuntError>
+    requires limit { limit ≤ most_parts }
+    requires between { IsBetweenRounds (E.hunted problem.now) (E.admits problem.now) E.reading first
+        limit state.old }
+    requires rows { state.old.rows.items ≡ [] }
+    ensures between { OnOk result (IsBetweenRounds (E.hunted problem.now) (E.admits problem.now)
+        E.reading (length state.old.keys.keys) limit state.new) }
+    ensures rows { OnOk result (state.new.rows.items ≡ []) }
+    ensures more { IfErr result (IfTooMany limit (IsBeyond (E.hunted problem.now) limit)) }
+{
+    if state.keys.len() - (first as usize) < many {
+        return round_of_few(state, alloc, problem, limit, gate, first);
+    }
+    let order = state.keys.as_slice();
+    match work_round(alloc, problem, order, first, state.parts, limit, gate) {
+        Ok(worked) => state.end_round(alloc, problem, limit, first, worked),
+        Err(error) => Err(error),
+    }
+}
+
+/// Works the round that begins at the position `first` by this number of workers, 1 to 16, or a
+/// round of one item by one. Errors are those of `round_alone`.
+pub(crate) fn round_together<E: Expand + Sync, G: Gate + Sync, R: Threads + Wait + Sync>(
+    rt: &R,
+    state: &mut HuntState<E>,
+    alloc: Global,
+    problem: &E,
+    limit: u64,
+    workers: u32,
+    gate: &G,
+    first: u32,
+) -> Result<(), HuntError>
+where
+    E::Key: Send + Sync,
+    E::Over: Send,
+    E::Rule: Send,
+    requires workers { (1 ≤ workers) × (workers ≤ 16) }
+    requires limit { limit ≤ most_parts }
+    requires between { IsBetweenRounds (E.hunted problem.now) (E.admits problem.now) E.reading first
+        limit state.old }
+    requires rows { state.old.rows.items ≡ [] }
+    ensures between { OnOk result (IsBetweenRounds (E.hunted problem.now) (E.admits problem.now)
+        E.reading (length state.old.keys.keys) limit state.new) }
+    ensures rows { OnOk result (state.new.rows.items ≡ []) }
+    ensures more { IfErr result (IfTooMany limit (IsBeyond (E.hunted problem.now) limit)) }
+{
+    if state.keys.len() - (first as usize) < 2 {
+        return round_of_few(state, alloc, problem, limit, gate, first);
+    }
+    let keys = &state.keys;
+    let parts = state.parts;
+    match work_together(rt, alloc, problem, keys, first, parts, limit, workers, gate) {
+        Ok(worked) => state.end_round_together(rt, alloc, problem, limit, first, workers, worked),
+        Err(error) => Err(error),
+    }
+}

@@ -1,5 +1,0 @@
-use Rattle.tib_job_files.proofs.OfJobs.{one_job_answer}
-use Rattle.tib_job_files.proofs.laws.answers_are_one.Goals as goal
-
-pub returns : goal.returns
-returns c = one_job_answer

@@ -1,6 +1,0 @@
-use Rattle.tib_job_files.proofs.FilesAsked.{files_asked}
-use Rattle.tib_job_files.proofs.OneStatus.{one_status}
-use Rattle.tib_job_files.proofs.laws.statuses_are_one.Goals as goal
-
-pub returns : goal.returns
-returns c words asked held one other is told a b = one_status asked held told (files_asked words asked is) one other a b

@@ -1,0 +1,176 @@
+// The best trees of a grammar in deterministic form, with few entries for each.
+ghost use Rattle.std.specs.Prelude.{◌≡◌, ℕ, ◌<◌, ◌≤◌, ◌+◌, ◌^◌, [], false, length, map, IfErr, IfOk};
+ghost use Rattle.std.proofs.Common.{get_or};
+ghost use Rattle.tib_grammar.specs.Forms.{AreNormal, IsDeterministic};
+ghost use Rattle.tib_grammar.specs.Range.{AreInRange};
+ghost use Rattle.tib_grammar.specs.Run.{rule_at};
+ghost use Rattle.tib_grammar_file.specs.Printed.{AreLabelled};
+ghost use Rattle.tib_ranked_trees.specs.Ranked.{AreRanksOf};
+ghost use Rattle.tib_ranked_trees.specs.Best.{IsFrontAt, IsKBest};
+ghost use Rattle.tib_ranked_trees.specs.Levels.{IsOrderly};
+ghost use Rattle.tib_ranked_trees.specs.Held.{IsSound};
+ghost use Rattle.tib_lazy_lists.specs.Demands.{entries_held, nodes_of};
+ghost use Rattle.tib_k_best.specs.Causes.{IsCause};
+ghost use Rattle.tib_k_best.specs.LazyLists.{entries_in};
+ghost use Rattle.tib_k_best.specs.Listing.{costed};
+ghost use Rattle.tib_k_best.specs.Trimmed.{HaveTreesBelow};
+
+use crate::asking::{Form, lists_of_rules};
+use crate::error::KBestError;
+use crate::listed::List;
+use std::alloc::Global;
+use std::marker::Model;
+use tib_cost::Semiring;
+use tib_grammar::Rule;
+use tib_ranked_trees::{Entry, Lists, Shared, label_ranks};
+use tib_normal::Normal;
+use tib_tree::Labels;
+
+/// The lists of all states, each from its best tree on: that of the start, and of the others what
+/// was needed to make it.
+#[derive(Drop)]
+pub struct LazyList {
+    trees: Shared,
+    lists: Vec<Vec<Entry>>,
+    steps: u64,
+}
+
+impl Model for LazyList {
+    ghost use Rattle.std.specs.Prelude.{List as ListFor, map};
+    ghost use Rattle.std.specs.Coded.{coded_list};
+    ghost use Rattle.tib_ranked_trees.specs.Best.{Costed};
+    ghost use Rattle.tib_ranked_trees.specs.ListsOf.{items_of};
+    ghost use Rattle.tib_k_best.specs.LazyLists.{IsCounted};
+    ghost use Rattle.tib_k_best.specs.Listing.{costed, costed_code};
+
+    ghost Value = { ListFor (ListFor Costed) };
+
+    ghost coded = { coded_list costed_code };
+
+    ghost view = { λ l. map (costed l.trees) (map items_of l.lists.items) };
+
+    ghost invariant = { λ l. IsCounted l.trees (map items_of l.lists.items) l.steps };
+}
+
+// How many entries all lists have together.
+fn count_entries(lists: &Lists) -> u64
+    requires sound { IsSound lists.now }
+    requires few { length lists.now.lists < 2 ^ 32 }
+    ensures { result ≡ entries_held lists.now }
+{
+    let mut entries: u64 = 0;
+    for state in 0..lists.states() as u32 {
+        entries += lists.len(state) as u64;
+    }
+    entries
+}
+
+impl LazyList {
+    // All lists, with the number of their entries.
+    fn of_lists(lists: Lists) -> LazyList
+        requires sound { IsSound lists }
+        requires few { length lists.lists < 2 ^ 32 }
+        requires start { 0 < length lists.lists }
+        ensures { result ≡ map (costed lists.entry.trees) lists.entry.lists }
+    {
+        let steps = count_entries(&lists);
+        let (trees, lists) = lists.into_lists();
+        LazyList {
+            trees,
+            lists,
+            steps,
+        }
+    }
+
+    /// How many entries were placed for all states. An entry is one tree on the list of a state. It
+    /// takes no memory.
+    pub fn steps(&self) -> u64
+        ensures { result ≡ entries_in self.now }
+    {
+        self.steps
+    }
+
+    /// The list of the start alone. It takes no memory.
+    pub fn into_list(self) -> List
+        ensures { result ≡ get_or self 0 [] }
+    {
+        let LazyList {
+            trees,
+            mut lists,
+            ..
+        } = self;
+        let entries = lists.swap_remove(0);
+        List::over(trees, entries)
+    }
+}
+
+/// The lists of rules in normal and in deterministic form, over this number of states. `ranks` has
+/// the place of each label's text in order. The errors and the worst case are those of
+/// `lazy_k_best`.
+pub fn lazy_of_rules<S: Semiring>(
+    alloc: Global,
+    rules: &[Rule<u32>],
+    states: u32,
+    labels: &Labels,
+    ranks: &[u32],
+    k: u32,
+) -> Result<LazyList, KBestError>
+    requires few { length rules.now < 2 ^ 32 }
+    requires start { 0 < states }
+    requires normal { AreNormal rules.now }
+    requires range { AreInRange states rules.now }
+    requires labelled { AreLabelled (length labels.now) rules.now }
+    requires ranks { AreRanksOf labels.now ranks.now }
+    requires orderly { IsOrderly S.product rules.now }
+    requires form { IsDeterministic rules.now }
+    requires some { 0 < k }
+    requires trimmed { HaveTreesBelow S.product rules.now }
+    ensures best { IfOk result (λ ls. IsKBest S.product rules.now labels.now k (get_or ls 0 [])) }
+    ensures fronts { IfOk result (λ ls. (q : ℕ) → IsFrontAt S.product labels.now rules.now q
+        (get_or ls q [])) }
+    ensures states { IfOk result (λ ls. length ls ≡ states) }
+    ensures bound { IfOk result (λ ls. entries_in ls ≤ states + nodes_of (get_or ls 0 [])) }
+    ensures cause { IfErr result (IsCause S.product labels.now rules.now k) }
+{
+    let states = states as usize;
+    match lists_of_rules::<S>(alloc, rules, states, labels, ranks, k, Form::Deterministic) {
+        Ok(lists) => Ok(LazyList::of_lists(lists)),
+        Err(error) => Err(error),
+    }
+}
+
+/// The k best trees of a grammar in deterministic form, as `k_best` gives them and with the same
+/// errors, with the entries of all states that were placed for them: at most as many as there are
+/// states and nodes of the listed trees. Worst case: that of `first_trees`, a pass over the last
+/// listed tree for each tree that is listed, O(log n) comparisons for each entry and candidate, and
+/// O(n log n) comparisons of texts for n labels.
+pub fn lazy_k_best<S: Semiring>(
+    alloc: Global,
+    normal: &Normal<S>,
+    labels: &Labels,
+    k: u32,
+) -> Result<LazyList, KBestError>
+    requires flat { S.LEVELLED ≡ false }
+    requires free { S.WEIGHTED ≡ false → (n : ℕ) → n < length normal.now.rules →
+        (rule_at normal.now.rules n).cost ≡ 0 }
+    requires labelled { AreLabelled (length labels.now) normal.now.rules }
+    requires some { 0 < k }
+    requires trimmed { HaveTreesBelow S.product normal.now.rules }
+    requires form { IsDeterministic normal.now.rules }
+    ensures best { IfOk result (λ ls. IsKBest S.product normal.now.rules labels.now k
+        (get_or ls 0 [])) }
+    ensures fronts { IfOk result (λ ls. (q : ℕ) → IsFrontAt S.product labels.now normal.now.rules q
+        (get_or ls q [])) }
+    ensures states { IfOk result (λ ls. length ls ≡ length normal.now.names) }
+    ensures bound { IfOk result (λ ls. entries_in ls
+        ≤ length normal.now.names + nodes_of (get_or ls 0 [])) }
+    ensures cause { IfErr result (IsCause S.product labels.now normal.now.rules k) }
+{
+    let Ok(ranks) = label_ranks(alloc, labels) else {
+        return Err(KBestError::OutOfMemory);
+    };
+    let grammar = normal.grammar();
+    grammar.is_sound();
+    let states = grammar.states();
+    lazy_of_rules::<S>(alloc, grammar.rule_list(), states, labels, &ranks, k)
+}

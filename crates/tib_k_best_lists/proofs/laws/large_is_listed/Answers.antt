@@ -1,5 +1,0 @@
-use Rattle.tib_k_best_lists.proofs.laws.large_is_listed.Goals as goal
-use Rattle.tib_k_best_lists.proofs.Large.{large_is_listed}
-
-pub returns : goal.returns
-returns g c = large_is_listed g.S.Semiring.product

@@ -1,5 +1,0 @@
-use Rattle.tib_k_best_lists.proofs.laws.levels_list_best.Goals as goal
-use Rattle.tib_k_best_lists.proofs.Leveling.{levels_list_best}
-
-pub returns : goal.returns
-returns g c = λ greater. levels_list_best g.met.S.Semiring.laws greater

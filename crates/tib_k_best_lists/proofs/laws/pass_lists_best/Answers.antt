@@ -1,5 +1,0 @@
-use Rattle.tib_k_best_lists.proofs.laws.pass_lists_best.Goals as goal
-use Rattle.tib_k_best_lists.proofs.Passing.{lists_best}
-
-pub returns : goal.returns
-returns g c = lists_best g.met.S.Semiring.laws

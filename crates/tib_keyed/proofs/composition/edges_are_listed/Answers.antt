@@ -1,5 +1,0 @@
-use Rattle.tib_keyed.proofs.EdgeList.{edges_are_listed}
-use Rattle.tib_keyed.proofs.composition.edges_are_listed.Goals as goal
-
-pub returns : goal.returns
-returns g c = λ one two whole key. edges_are_listed g.S.Semiring.product one two whole key

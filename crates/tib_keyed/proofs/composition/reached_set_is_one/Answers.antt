@@ -1,5 +1,0 @@
-use Rattle.tib_keyed.proofs.Exact.{one_reached}
-use Rattle.tib_keyed.proofs.composition.reached_set_is_one.Goals as goal
-
-pub returns : goal.returns
-returns g c = λ one two order other es fs h k. one_reached g.S.Semiring.product one two order other es fs h k

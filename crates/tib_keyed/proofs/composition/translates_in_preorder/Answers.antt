@@ -1,5 +1,0 @@
-use Rattle.tib_keyed.proofs.Flattened.{translates_in_preorder}
-use Rattle.tib_keyed.proofs.composition.translates_in_preorder.Goals as goal
-
-pub returns : goal.returns
-returns c = λ two p f n kids below h t. translates_in_preorder two p f n kids below h t

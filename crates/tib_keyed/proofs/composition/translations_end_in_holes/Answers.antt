@@ -1,5 +1,0 @@
-use Rattle.tib_keyed.proofs.Flattened.{translations_end_in_holes}
-use Rattle.tib_keyed.proofs.composition.translations_end_in_holes.Goals as goal
-
-pub returns : goal.returns
-returns c = λ two ps sides choice. translations_end_in_holes two choice ps sides

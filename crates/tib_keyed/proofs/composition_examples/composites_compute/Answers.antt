@@ -1,8 +1,0 @@
-use Rattle.tib_keyed.proofs.Worked.{shaped, composite_is}
-use Rattle.tib_keyed.proofs.composition_examples.composites_compute.Goals as goal
-
-pub returns-clause-shaped : goal.returns-clause-shaped
-returns-clause-shaped c = shaped
-
-pub returns-clause-composite : goal.returns-clause-composite
-returns-clause-composite c = composite_is

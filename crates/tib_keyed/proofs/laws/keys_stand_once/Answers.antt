@@ -1,7 +1,0 @@
-use Rattle.tib_keyed.proofs.laws.keys_stand_once.Goals as goal
-use Rattle.tib_keyed.specs.Keyed.{Told}
-use Rattle.tib_keyed.proofs.KeyOrders.{order_once}
-
-pub returns : goal.returns
-returns g c cmp total start edge ends_of key_parts edge_parts rounds expanded order h =
-    order_once cmp start (Told edge) ends_of key_parts edge_parts total rounds expanded order h

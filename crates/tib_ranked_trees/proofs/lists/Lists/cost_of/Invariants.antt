@@ -1,0 +1,14 @@
+use Rattle.std.proofs.Common.{◌≡◌, ◌≤◌, length}
+use Rattle.tib_grammar.specs.Run.{rule_at}
+use Rattle.tib_ranked_trees.specs.Levels.{states_of}
+use Rattle.tib_ranked_trees.specs.Held.{entries_of, ranks_from}
+use Rattle.tib_ranked_trees.proofs.Offering.{total_from}
+use Rattle.tib_ranked_trees.proofs.lists.Lists.cost_of.Given as goal
+
+abbrev pub invariant-loop-i : goal.invariant-loop-i
+invariant-loop-i g l =
+    (l.i ≤ length (states_of (rule_at l.self.rules l.rule)))
+    × (l.total ≡ total_from g.S.Semiring.product (entries_of l.self) (states_of (rule_at l.self.rules l.rule)) (ranks_from l.self l.rule l.start) l.i)
+
+abbrev pub decreases-loop-i : goal.decreases-loop-i
+decreases-loop-i g l = l.i

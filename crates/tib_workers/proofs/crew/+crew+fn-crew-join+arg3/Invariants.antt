@@ -1,0 +1,8 @@
+use Rattle.std.proofs.Common.{◌-◌}
+use Rattle.tib_workers.proofs.crew.+crew+fn-crew-join+arg3.Given as goal
+
+abbrev pub decreases-crew : goal.decreases-crew
+decreases-crew g l = l.others
+
+abbrev pub decreases-join+arg3 : goal.decreases-join+arg3
+decreases-join+arg3 g l = l.others - 1

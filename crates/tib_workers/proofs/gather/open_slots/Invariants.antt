@@ -1,0 +1,6 @@
+use Rattle.std.proofs.Common.{◌≡◌, None}
+use Rattle.std.specs.Prelude.{replicate}
+use Rattle.tib_workers.proofs.gather.open_slots.Given as goal
+
+abbrev pub invariant-loop : goal.invariant-loop
+invariant-loop g l = l.slots.items ≡ replicate l.counter None
