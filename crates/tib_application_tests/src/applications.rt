@@ -6,11 +6,11 @@ use crate::grammars::{Row, normal};
 use crate::transducers::{Move, Node, rules, transducer};
 use std::alloc::Global;
 use tib_apply::{ApplyError, Key, Restrictions};
-use tib_reached::{apply_backward, apply_forward};
 use tib_cost::MinPlus;
-use tib_grammar::{Item, Rule};
 use tib_expand::{Found, Open, TableKey};
+use tib_grammar::{Item, Rule};
 use tib_normal::Normal;
+use tib_reached::{apply_backward, apply_forward};
 use tib_transducer::{Transducer, TransducerRule};
 
 /// The two states and the restriction of a key.

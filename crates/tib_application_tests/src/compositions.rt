@@ -7,11 +7,11 @@ use std::alloc::Global;
 use std::sync::Wait;
 use std::thread::Threads;
 use tib_compose::ComposeError;
-use tib_reached::{compose, compose_together};
 use tib_cost::{MOST, MinPlus};
-use tib_grammar::Item;
 use tib_expand::{Found, Open};
+use tib_grammar::Item;
 use tib_key_edges::StatePair;
+use tib_reached::{compose, compose_together};
 use tib_transducer::{Pair, Transducer, TransducerRule, Variable};
 use tib_tree::Label;
 

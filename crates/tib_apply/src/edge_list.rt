@@ -3,8 +3,8 @@ ghost use Rattle.std.specs.Prelude.{◌≡◌, length};
 
 use crate::key::Key;
 use std::alloc::Global;
-use tib_grammar::Rule;
 use tib_expand::Edges;
+use tib_grammar::Rule;
 
 /// The edges of the key at a position, as far as they are listed, within a budget of parts. In a
 /// rule the left number is the position, and the numbers in the right-hand side are those of ends.

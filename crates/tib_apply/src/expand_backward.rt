@@ -7,8 +7,8 @@ use crate::placing::place_ends;
 use std::alloc::{AllocError, Global};
 use std::collections::LinkedList;
 use tib_cost::Semiring;
-use tib_grammar::Rule;
 use tib_expand::{Edges, Expand, ExpandError};
+use tib_grammar::Rule;
 
 impl<'a, S: Semiring> Expand for Backward<'a, S> {
     ghost use Rattle.std.specs.Prelude.{◌<◌, length};

@@ -6,8 +6,8 @@ use crate::key::Key;
 use std::alloc::{AllocError, Global};
 use std::collections::LinkedList;
 use tib_cost::Semiring;
-use tib_grammar::Rule;
 use tib_expand::{Edges, Expand, ExpandError};
+use tib_grammar::Rule;
 use tib_key_edges::settled_side;
 
 impl<'a, S: Semiring> Expand for Forward<'a, S> {

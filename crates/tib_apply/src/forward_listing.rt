@@ -11,8 +11,8 @@ use crate::forward_plan::PlannedEnd;
 use crate::key::Key;
 use std::alloc::AllocError;
 use tib_cost::Cost;
-use tib_grammar::Side;
 use tib_expand::ExpandError;
+use tib_grammar::Side;
 use tib_key_edges::{SideListing, SideRule};
 use tib_transducer::Pair;
 

@@ -14,9 +14,8 @@ use crate::ordering::Printed;
 use std::alloc::{AllocError, Global};
 use std::marker::Model;
 use tib_cost::{Cost, Semiring};
+use tib_expand::{Found, TableKey};
 use tib_grammar::{Item, Rule, Side, rename_rules};
-use tib_expand::Found;
-use tib_expand::TableKey;
 use tib_tree::Labels;
 
 /// Positions of an order, each with a cost: where the chain rules of a fresh start lead, and what

@@ -12,8 +12,7 @@ use crate::transducer_ordering::{PrintedTransducer, in_order};
 use crate::{numbers_of, states_by_keys};
 use std::alloc::{AllocError, Global};
 use tib_cost::Semiring;
-use tib_expand::Found;
-use tib_expand::TableKey;
+use tib_expand::{Found, TableKey};
 use tib_transducer::TransducerRule;
 use tib_tree::Labels;
 

@@ -178,7 +178,11 @@ fn are_files(operation: Operation, words: &[&str]) -> bool
 }
 
 /// The file names of an operation, where the words are these.
-fn files_in(alloc: Global, operation: Operation, words: &[&str]) -> Result<Option<AskedFor>, AllocError>
+fn files_in(
+    alloc: Global,
+    operation: Operation,
+    words: &[&str],
+) -> Result<Option<AskedFor>, AllocError>
     ensures task { IfOk result (λ r. option_map task_meaning r
         ≡ files_in operation (map (λ w. w.now) words.now)) }
     ensures files { IfOk result (λ r. IfSome r (λ t. length t.files.items ≡ word_count operation)) }
@@ -216,7 +220,10 @@ fn demo_in(alloc: Global, words: &[&str]) -> Option<AskedFor>
 }
 
 /// What the positional words say, where they are of the language.
-pub(crate) fn read_task(alloc: Global, places: Option<&[&str]>) -> Result<Option<AskedFor>, AllocError>
+pub(crate) fn read_task(
+    alloc: Global,
+    places: Option<&[&str]>,
+) -> Result<Option<AskedFor>, AllocError>
     ensures task { IfOk result (λ r. option_map task_meaning r ≡ task_in (texts_of places.entry)) }
     ensures files { IfOk result (λ r. IfSome r (λ t.
         length t.files.items ≡ word_count t.operation)) }

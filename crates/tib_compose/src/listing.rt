@@ -9,8 +9,8 @@ ghost use Rattle.tib_compose.specs.CompositionListing.{IsAdded, IsPlacedRule, Is
 use crate::placed_rule::PlacedRule;
 use std::alloc::{AllocError, Global};
 use tib_cost::Cost;
-use tib_grammar::{Item, Side};
 use tib_expand::{Edges, ExpandError, Place};
+use tib_grammar::{Item, Side};
 use tib_key_edges::StatePair;
 use tib_transducer::{Pair, Variable};
 

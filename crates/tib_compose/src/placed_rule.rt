@@ -1,8 +1,8 @@
 //! Edges over places.
 
 use tib_cost::Cost;
-use tib_grammar::Side;
 use tib_expand::Place;
+use tib_grammar::Side;
 use tib_transducer::{Pair, Variable};
 
 /// An edge over places: from a position of the order it reads the left-hand side of a rule of the

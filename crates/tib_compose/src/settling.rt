@@ -13,8 +13,8 @@ ghost use Rattle.tib_compose.specs.NamedItems.{IsItemWithin, HolesAreWithin};
 
 use crate::placed_rule::PlacedRule;
 use std::alloc::{AllocError, Global};
-use tib_grammar::{Item, Side};
 use tib_expand::Place;
+use tib_grammar::{Item, Side};
 use tib_transducer::{Pair, TransducerRule, Variable};
 use tib_tree::ShapeError;
 

@@ -9,12 +9,12 @@ use crate::composite::Composite;
 use crate::listing::CompositionListing;
 use crate::pending::product_of;
 use crate::putting::push_pieces;
-use crate::search::{Search, ReturnPoint};
+use crate::search::{ReturnPoint, Search};
 use crate::source::Source;
 use std::alloc::{AllocError, Global};
 use tib_cost::Semiring;
-use tib_grammar::Side;
 use tib_expand::ExpandError;
+use tib_grammar::Side;
 use tib_transducer::Variable;
 
 /// Goes on with the branch of a search up to the next label that is read, and turns there; where

@@ -7,10 +7,10 @@ use std::sync::Wait;
 use std::thread::Threads;
 use tib_cost::{Boolean, Bottleneck, Cost, MinPlus, Semiring};
 use tib_determinize::{Residuals, Vector};
-use tib_reached::{determinize, determinize_together};
-use tib_grammar::Rule;
 use tib_expand::{Found, HuntError, Open};
+use tib_grammar::Rule;
 use tib_normal::Normal;
+use tib_reached::{determinize, determinize_together};
 
 // q -> f(p) # 1, q -> f(r) # 3, p -> a # 2 and r -> a # 1.
 static AMBIGUOUS: [Row; 4] = [

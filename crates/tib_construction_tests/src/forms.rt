@@ -7,11 +7,10 @@ use std::alloc::{AllocError, Global};
 use std::test::Fail;
 use tib_canon::{Begin, Printed, canonical, to_grammar};
 use tib_cost::{Boolean, MinPlus, Semiring};
+use tib_expand::{Found, TableKey};
 use tib_grammar::Grammar;
 use tib_grammar_file::{print_grammar, read_grammar};
-use tib_expand::Found;
 use tib_io::GrowingSink;
-use tib_expand::TableKey;
 use tib_tree::Labels;
 
 /// A number as a key.

@@ -6,12 +6,12 @@ use std::alloc::Global;
 use std::sync::Wait;
 use std::thread::Threads;
 use tib_cost::{Bottleneck, MOST, MinPlus, Semiring};
-use tib_grammar::Rule;
 use tib_expand::{Edges, Expand, ExpandError, Found, HuntError, Open, TableKey};
+use tib_grammar::Rule;
 use tib_intersect::{PairRule, Pairs};
-use tib_reached::{intersect, intersect_together};
 use tib_key_edges::StatePair;
 use tib_normal::Normal;
+use tib_reached::{intersect, intersect_together};
 use tib_tree::Label;
 
 static LEFT: [Row; 4] = [

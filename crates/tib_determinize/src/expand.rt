@@ -9,8 +9,8 @@ use crate::vector::Vector;
 use crate::vector_rule::VectorRule;
 use std::alloc::{AllocError, Global};
 use tib_cost::Semiring;
-use tib_grammar::{Rule, Side};
 use tib_expand::{Edges, Expand, ExpandError};
+use tib_grammar::{Rule, Side};
 
 impl<'a, S: Semiring> Expand for Residuals<'a, S> {
     ghost use Rattle.std.specs.Prelude.{length};

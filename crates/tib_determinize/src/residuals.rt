@@ -254,7 +254,11 @@ impl<'a, S: Semiring> Residuals<'a, S> {
     }
 
     /// The edges of the labels over no vector.
-    pub(crate) fn list_leaves(&self, alloc: Global, budget: u64) -> Result<VectorListing, ExpandError>
+    pub(crate) fn list_leaves(
+        &self,
+        alloc: Global,
+        budget: u64,
+    ) -> Result<VectorListing, ExpandError>
         requires budget { budget ≤ most_parts }
         ensures listed { IfOk result (HasSteps S.product self.now.normal.now.rules []
             (leaf_tries (shapes_in self.now.normal.now.rules))) }

@@ -21,8 +21,8 @@ use crate::vector::Vector;
 use crate::wanted::{next_wanted, wanted_at};
 use std::alloc::{AllocError, Global};
 use tib_cost::Semiring;
-use tib_grammar::Rule;
 use tib_expand::ExpandError;
+use tib_grammar::Rule;
 use tib_tree::Label;
 
 /// What a walk goes over: the edges of a label over a number of vectors of an order, in which a

@@ -16,9 +16,9 @@ ghost use Rattle.tib_expand.specs.Lawful.{IsLawful};
 ghost use Rattle.tib_expand.specs.Reached.{Exploration, most_parts};
 ghost use Rattle.tib_expand.specs.Reading.{Reading, ReadsAlike, HasPositions};
 
+use crate::key::TableKey;
 use crate::place::{Edges, ExpandError};
 use std::alloc::{AllocError, Global};
-use crate::key::TableKey;
 
 /// An operation whose keys are reached from seeds along edges. An edge comes from an origin, and a
 /// list has it once for each origin that gives it.

@@ -9,12 +9,12 @@ ghost use Rattle.tib_hunt.specs.Rows.{IsRowBelow, ReadAs, StayBelow};
 ghost use Rattle.tib_hunt.specs.Known.{AreOn};
 ghost use Rattle.tib_hunt.specs.Shelved.{placed_row};
 
-use tib_expand::Expand;
 use crate::lookups::Ruled;
 use crate::placing::place_rows;
 use std::alloc::{AllocError, Global};
 use std::mem::replace;
 use std::thread::{Threads, join};
+use tib_expand::Expand;
 use tib_workers::Row;
 
 // The fewest rows that are worth a thread of their own.

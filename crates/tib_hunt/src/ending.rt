@@ -9,13 +9,12 @@ ghost use Rattle.tib_hunt.specs.Rows.{IsRowBelow};
 ghost use Rattle.tib_hunt.specs.States.{AreSettled, IsBetweenRounds, WorksRound, HavePositions, LacksAll, rows_in};
 
 use crate::dividing::place_together;
-use tib_expand::Expand;
-use crate::state::{HuntState, TakenIn};
 use crate::placing::place_rows;
 use crate::shelved_round::Worked;
+use crate::state::{HuntState, TakenIn};
 use std::alloc::{AllocError, Global};
 use std::thread::Threads;
-use tib_expand::HuntError;
+use tib_expand::{Expand, HuntError};
 use tib_table::{Lookup, put_fresh, put_fresh_together};
 
 impl<E: Expand> HuntState<E> {

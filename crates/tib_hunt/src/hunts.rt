@@ -5,14 +5,12 @@ ghost use Rattle.tib_expand.specs.Found.{IsFound, AreWithinOrder, HasParts};
 ghost use Rattle.tib_expand.specs.Reached.{IfTooMany, IsBeyond, most_parts};
 ghost use Rattle.tib_hunt.specs.States.{IsBetweenRounds};
 
-use tib_expand::Expand;
-use tib_expand::{Found, Gate};
-use crate::state::{HuntState, list_keys};
 use crate::rounds::{round_alone, round_together};
+use crate::state::{HuntState, list_keys};
 use std::alloc::{AllocError, Global};
 use std::sync::Wait;
 use std::thread::Threads;
-use tib_expand::HuntError;
+use tib_expand::{Expand, Found, Gate, HuntError};
 
 /// A round of at least this many items opens shelves. There are as many shelves.
 const MANY: usize = 16;

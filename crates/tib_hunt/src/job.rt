@@ -2,15 +2,13 @@
 
 ghost use Rattle.std.specs.Prelude.{◌≤◌, ◌<◌, ◌^◌, length};
 
-use tib_expand::Expand;
-use tib_expand::Gate;
 use crate::lookups::{Ruled, split_ends};
-use tib_expand::ExpandError;
 use indexmap::IndexSet;
 use std::alloc::Global;
 use std::collections::LinkedList;
-use tib_workers::{Performed, Task, Unperformed};
+use tib_expand::{Expand, ExpandError, Gate};
 use tib_table::Problem;
+use tib_workers::{Performed, Task, Unperformed};
 
 /// The items of a round, each with the edges of its position, and the gate that is called before an
 /// item is expanded. The keys are those of the order so far. Items are counted from the first

@@ -3,8 +3,8 @@
 ghost use Rattle.std.specs.Prelude.{length, ◌-◌};
 ghost use Rattle.tib_hunt.specs.RoundLaw.{EveryRun, TwoRuns};
 
-use tib_expand::Expand;
 use crate::round_of::RoundOf;
+use tib_expand::Expand;
 
 /// After every complete run of a round's events each item was drawn once and filed once, and the
 /// keys on the shelves are the distinct ends of the items, each once. By definition, the filed

@@ -5,12 +5,9 @@ ghost use Rattle.tib_expand.specs.Reached.{IfTooMany, IsBeyond, most_parts};
 ghost use Rattle.tib_hunt.specs.Rows.{numbered};
 ghost use Rattle.tib_hunt.specs.States.{IsBetweenRounds, IsExpanded};
 
-use tib_expand::Expand;
-use tib_expand::Gate;
 use crate::state::HuntState;
-use tib_expand::ExpandError;
 use std::alloc::Global;
-use tib_expand::{HuntError, TableKey};
+use tib_expand::{Expand, ExpandError, Gate, HuntError, TableKey};
 
 // Expands the positions of the order from `first` on. Their ends are numbered on from the order, as
 // they are found.

@@ -8,12 +8,12 @@ ghost use Rattle.tib_hunt.specs.Rows.{IsRowBelow, ReadsRow, ReadAs, StayBelow};
 ghost use Rattle.tib_hunt.specs.Known.{position_on, IsOn, positions_at, HavePositionsAt, end_positions, AreOn};
 ghost use Rattle.tib_hunt.specs.Shelved.{placed_row};
 
-use tib_expand::Expand;
 use crate::lookups::{EndAt, Ruled};
 use crate::row::{move_end, settle_rules};
 use std::alloc::{AllocError, Global};
-use tib_workers::Row;
+use tib_expand::Expand;
 use tib_table::Number;
+use tib_workers::Row;
 
 // The position of a number on a shelf.
 fn place_end(number: Number, positions: &[Vec<u32>]) -> u32

@@ -2,9 +2,9 @@
 
 ghost use Rattle.std.specs.Prelude.{◌≤◌, ◌<◌, ◌^◌, length};
 
-use tib_expand::Expand;
 use crate::itemized::Itemized;
 use std::collections::LinkedList;
+use tib_expand::Expand;
 use tib_table::Problem;
 
 /// The problem of one round. Its items are the positions of the order from the first one on, and it

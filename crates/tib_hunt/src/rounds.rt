@@ -4,16 +4,14 @@ ghost use Rattle.std.specs.Prelude.{◌≡◌, ◌≤◌, [], length, IfErr, OnO
 ghost use Rattle.tib_expand.specs.Reached.{IfTooMany, IsBeyond, most_parts};
 ghost use Rattle.tib_hunt.specs.States.{IsBetweenRounds};
 
-use tib_expand::Expand;
 use crate::listed_round::round_of_few;
-use tib_expand::Gate;
+use crate::shelved_round::work_round;
 use crate::state::HuntState;
 use crate::worker_round::work_together;
-use crate::shelved_round::work_round;
 use std::alloc::Global;
 use std::sync::Wait;
 use std::thread::Threads;
-use tib_expand::HuntError;
+use tib_expand::{Expand, Gate, HuntError};
 
 /// Works the round that begins at the position `first` by one worker, on shelves if it has at least
 /// `many` items, and otherwise on one list. The outcome is the same. `TooMany` only if the reached

@@ -6,8 +6,8 @@ ghost use Rattle.tib_expand.specs.EdgeLists.{IsWithin};
 ghost use Rattle.tib_hunt.specs.Numbered.{moved_to};
 ghost use Rattle.tib_hunt.specs.Rows.{numbered, IsRowBelow, Settles, ReadsRow, ReadAs, StayBelow};
 
-use tib_expand::Expand;
 use std::alloc::{AllocError, Global};
+use tib_expand::Expand;
 
 /// Edges whose ends have numbers, and no positions yet.
 #[derive(Drop)]

@@ -12,16 +12,13 @@ ghost use Rattle.tib_hunt.specs.RoundModel.{IsItem};
 ghost use Rattle.tib_hunt.specs.Shelved.{all_on, IsTooMuch};
 ghost use Rattle.tib_hunt.specs.States.{WorksItem, WorksRound};
 
-use tib_expand::Expand;
-use tib_expand::Gate;
 use crate::lookups::Ruled;
-use tib_expand::ExpandError;
 use crate::round::Round;
 use crate::round_of::RoundOf;
 use crate::shelving::{draw_item, file_item, shelve_ends};
 use std::alloc::Global;
+use tib_expand::{Expand, ExpandError, Gate, HuntError, TableKey};
 use tib_workers::Row;
-use tib_expand::{HuntError, TableKey};
 
 /// What a round makes: the keys on its shelves, the rows of its items, and the parts of all that
 /// was there before and of these rows.

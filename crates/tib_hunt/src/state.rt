@@ -12,16 +12,14 @@ ghost use Rattle.tib_hunt.specs.Rows.{numbered, IsRowBelow};
 ghost use Rattle.tib_hunt.specs.Shelved.{all_on};
 ghost use Rattle.tib_hunt.specs.States.{AddsEdges, AreSettled, IsBetweenRounds, IsExpanded, WorksRound, shelves_of, ArePlaced, HavePositions, LacksAll, rows_in};
 
-use tib_expand::Expand;
 use crate::lookups::Ruled;
-use tib_expand::{Edges, ExpandError};
 use crate::row::{Row, settle_rows};
 use crate::shelved_round::Worked;
 use indexmap::IndexSet;
 use std::alloc::{AllocError, Global};
-use tib_workers::Row as ItemRow;
-use tib_expand::{HuntError, TableKey};
+use tib_expand::{Edges, Expand, ExpandError, HuntError, TableKey};
 use tib_table::{Lookup, count_keys, find_shelves, number_ends, put_fresh, sort_new};
+use tib_workers::Row as ItemRow;
 
 /// The keys so far, the rules over their positions, the rows of the round, and the parts of all.
 #[derive(Drop)]

@@ -7,16 +7,14 @@ ghost use Rattle.tib_hunt.specs.Held.{IsBetween};
 ghost use Rattle.tib_expand.specs.Reached.{IfTooMany, IsBeyond, most_parts};
 ghost use Rattle.tib_hunt.specs.States.{WorksRound, LacksAll};
 
-use tib_expand::Expand;
-use tib_expand::Gate;
 use crate::job::JobOf;
 use crate::shelved_round::Worked;
 use indexmap::IndexSet;
 use std::alloc::Global;
 use std::sync::Wait;
 use std::thread::Threads;
+use tib_expand::{Expand, Gate, HuntError};
 use tib_workers::{Gathered, Row, Unperformed, perform_all};
-use tib_expand::HuntError;
 
 // The parts of all rows.
 fn count_parts<T>(rows: &[Row<T>]) -> u64

@@ -8,8 +8,8 @@ use std::alloc::Global;
 use std::sync::Wait;
 use std::sync::atomic::{AtomicU64, Ordering};
 use std::thread::{Threads, join};
-use tib_workers::{Gathered, Items, Performed, Seat, Task, Unperformed, perform_all};
 use tib_table::Problem;
+use tib_workers::{Gathered, Items, Performed, Seat, Task, Unperformed, perform_all};
 
 /// How often a worker looks for another before it gives up.
 const TURNS: u32 = 200_000_000;

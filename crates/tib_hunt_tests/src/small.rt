@@ -9,9 +9,8 @@ ghost use Rattle.tib_expand.specs.declared.place.Place.{Place};
 ghost use Rattle.std.proofs.Common.{◌∙◌, sym};
 
 use std::alloc::{AllocError, Global};
-use tib_expand::{Edges, Expand, ExpandError, Found, HuntError, Open, Place};
+use tib_expand::{Edges, Expand, ExpandError, Found, HuntError, Open, Place, TableKey};
 use tib_hunt::{Answer, Event, Itemized, Round, RoundOf, hunt_alone};
-use tib_expand::TableKey;
 use tib_table::{Number, Problem};
 
 #[derive(Clone, Copy, Debug, Drop, PartialEq, Eq, PartialOrd, Ord, Hash)]

@@ -11,9 +11,10 @@ use std::alloc::{AllocError, Global};
 use std::sync::Wait;
 use std::sync::atomic::{AtomicU64, Ordering};
 use std::thread::Threads;
-use tib_expand::{Edges, Expand, ExpandError, Found, Gate, HuntError, MOST_PARTS, Open, Place};
+use tib_expand::{
+    Edges, Expand, ExpandError, Found, Gate, HuntError, MOST_PARTS, Open, Place, TableKey,
+};
 use tib_hunt::{hunt, hunt_alone};
-use tib_expand::TableKey;
 
 /// An operation whose seed is the node 0, and of which each position n below the length has one
 /// edge, to the nodes `times` * n + 1 and `times` * n + 2. So the order is that of all numbers; at

@@ -16,9 +16,8 @@ use std::marker::Model;
 use std::sync::Wait;
 use std::sync::atomic::{AtomicU64, Ordering};
 use std::thread::Threads;
-use tib_expand::{Edges, Expand, ExpandError, Open};
+use tib_expand::{Edges, Expand, ExpandError, Open, TableKey};
 use tib_hunt::hunt;
-use tib_expand::TableKey;
 
 /// How often a worker looks for another before it gives up.
 const TURNS: u32 = 200_000_000;

@@ -13,19 +13,19 @@ ghost use Rattle.tib_operations.specs.Backward.{linear_nondeleting, HasBackwardS
 ghost use Rattle.tib_operations.specs.Made.{IsLimit, IsMadeFault};
 ghost use Rattle.tib_operations.specs.Moves.{ArePlainMoves};
 
-use tib_texts::{product_has_laws, trimmed_form};
-use tib_operations::Status;
 use std::alloc::{AllocError, Global};
 use std::sync::Wait;
 use std::thread::Threads;
 use tib_apply::{ApplyError, Key};
-use tib_reached::{apply_backward, apply_backward_together};
 use tib_canon::{Begin, Printed, over_keys_texts_are_read, to_grammar};
 use tib_cost::Semiring;
+use tib_expand::{Found, Gate};
 use tib_grammar::{Grammar, Rule};
 use tib_grammar_file::printable_is_labelled;
-use tib_expand::{Found, Gate};
 use tib_normal::Normal;
+use tib_operations::Status;
+use tib_reached::{apply_backward, apply_backward_together};
+use tib_texts::{product_has_laws, trimmed_form};
 use tib_transducer::Transducer;
 use tib_tree::Labels;
 
@@ -115,7 +115,11 @@ pub fn inverse_image_of<S: Semiring + Drop, G: Gate>(
 /// What `inverse_image_of` returns, with the keys hunted by this number of workers, 1 to 16, whatever
 /// the order of their steps. It may wait forever, as the hunt by several workers. Errors are those
 /// of `inverse_image_of`.
-pub fn inverse_image_of_together<S: Semiring + Sync + Drop, R: Threads + Wait + Sync, G: Gate + Sync>(
+pub fn inverse_image_of_together<
+    S: Semiring + Sync + Drop,
+    R: Threads + Wait + Sync,
+    G: Gate + Sync,
+>(
     rt: &R,
     alloc: Global,
     transducer: &Transducer<S>,

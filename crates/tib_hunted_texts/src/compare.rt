@@ -18,14 +18,14 @@ use std::sync::Wait;
 use std::thread::Threads;
 use tib_canon::trimmed_forms_have_the_same_rules;
 use tib_compare::{CompareError, Compared};
-use tib_reached::{compare_alone, compare_supports};
 use tib_cost::Boolean;
+use tib_expand::Gate;
 use tib_grammar::Grammar;
 use tib_grammar_file::printable_is_labelled;
-use tib_expand::Gate;
 use tib_io::{Failed, GrowingSink};
 use tib_normal::Normal;
 use tib_operations::Status;
+use tib_reached::{compare_alone, compare_supports};
 use tib_texts::{trimmed_form, write_piece};
 use tib_tree::{Labels, Tree, print_tree};
 

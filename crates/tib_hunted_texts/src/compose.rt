@@ -9,16 +9,16 @@ ghost use Rattle.tib_operations.specs.Classes.{demanded_of, IsClassFault};
 ghost use Rattle.tib_operations.specs.Compose.{plain, compose_makes, HasComposeText, IsComposeText};
 ghost use Rattle.tib_operations.specs.Made.{IsLimit, IsMadeFault};
 
-use tib_operations::Status;
 use std::alloc::{AllocError, Global};
 use std::sync::Wait;
 use std::thread::Threads;
 use tib_canon::{PrintedTransducer, to_transducer};
 use tib_compose::ComposeError;
-use tib_reached::{compose, compose_together};
 use tib_cost::Semiring;
 use tib_expand::{Found, Gate};
 use tib_key_edges::StatePair;
+use tib_operations::Status;
+use tib_reached::{compose, compose_together};
 use tib_transducer::{Transducer, TransducerRule};
 use tib_tree::Labels;
 

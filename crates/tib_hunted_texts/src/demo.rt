@@ -9,20 +9,18 @@ ghost use Rattle.tib_operations.specs.Determinize.{IsDeterminizedText, determini
 ghost use Rattle.tib_operations.specs.Made.{IsLimit, IsMadeFault};
 
 use crate::determinize::{determinization_of, determinization_of_together};
-use tib_texts::product_has_laws;
-use tib_texts::kbest_text;
-use tib_texts::{write_about, write_piece};
-use tib_operations::Status;
 use std::alloc::{AllocError, Global};
 use std::sync::Wait;
 use std::thread::Threads;
 use tib_canon::Printed;
 use tib_cost::Semiring;
+use tib_expand::Gate;
 use tib_grammar::Grammar;
 use tib_grammar_file::{faults_have_no_text, read_grammar, read_grammars_are_printable};
-use tib_expand::Gate;
 use tib_io::{Failed, GrowingSink};
 use tib_lex::ReadError;
+use tib_operations::Status;
+use tib_texts::{kbest_text, product_has_laws, write_about, write_piece};
 use tib_tree::Labels;
 
 // Adds a piece to a text.

@@ -11,8 +11,6 @@ ghost use Rattle.tib_determinize.specs.Started.{finals};
 ghost use Rattle.tib_operations.specs.Determinize.{determinizing, IsDeterminizationOf, HasDeterminizedText, IsDeterminizedText, determinize_makes};
 ghost use Rattle.tib_operations.specs.Made.{IsLimit, IsMadeFault};
 
-use tib_texts::trimmed_form;
-use tib_operations::Status;
 use std::alloc::{AllocError, Global};
 use std::sync::Wait;
 use std::thread::Threads;
@@ -22,11 +20,13 @@ use tib_canon::{
 use tib_cost::Semiring;
 use tib_determinize::laws::{same_series, started_is_deterministic};
 use tib_determinize::{Residuals, Vector};
-use tib_reached::{determinize, determinize_together};
+use tib_expand::{Found, Gate, HuntError};
 use tib_grammar::{Grammar, Rule};
 use tib_grammar_file::printable_is_labelled;
-use tib_expand::{Found, Gate, HuntError};
 use tib_normal::Normal;
+use tib_operations::Status;
+use tib_reached::{determinize, determinize_together};
+use tib_texts::trimmed_form;
 use tib_tree::Labels;
 
 // Where the fresh start leads: each position whose vector has the grammar's start, at the residual

@@ -7,16 +7,16 @@ ghost use Rattle.tib_operations.specs.Image.{image_makes, HasImageText, IsImageT
 ghost use Rattle.tib_operations.specs.Made.{IsLimit, IsMadeFault};
 ghost use Rattle.tib_operations.specs.Moves.{ArePlainMoves};
 
-use tib_operations::Status;
 use std::alloc::{AllocError, Global};
 use std::sync::Wait;
 use std::thread::Threads;
 use tib_canon::{Begin, Printed, over_keys_texts_are_read, to_grammar};
 use tib_cost::Semiring;
+use tib_expand::{Found, Gate, HuntError};
 use tib_grammar::Rule;
 use tib_grammar_file::printable_is_labelled;
-use tib_expand::{Found, Gate, HuntError};
 use tib_image::Key;
+use tib_operations::Status;
 use tib_reached::{image, image_together};
 use tib_transducer::Transducer;
 use tib_tree::{Labels, Tree};

@@ -11,8 +11,6 @@ ghost use Rattle.tib_canon.specs.Constructions.{IsCanonicalOf};
 ghost use Rattle.tib_operations.specs.Intersect.{HasProductSeries, intersecting, intersect_makes, HasIntersectionText, IsIntersectionText};
 ghost use Rattle.tib_operations.specs.Made.{IsLimit, IsMadeFault};
 
-use tib_texts::trimmed_form;
-use tib_operations::Status;
 use std::alloc::{AllocError, Global};
 use std::sync::Wait;
 use std::thread::Threads;
@@ -20,13 +18,15 @@ use tib_canon::{
     Begin, Printed, over_keys_texts_are_read, to_grammar, trimmed_forms_have_the_same_rules,
 };
 use tib_cost::Semiring;
+use tib_expand::{Found, Gate, HuntError};
 use tib_grammar::{Grammar, Rule};
 use tib_grammar_file::printable_is_labelled;
-use tib_expand::{Found, Gate, HuntError};
 use tib_intersect::laws::{order_is_free, pairs_mean};
-use tib_reached::{intersect, intersect_together};
 use tib_key_edges::StatePair;
 use tib_normal::Normal;
+use tib_operations::Status;
+use tib_reached::{intersect, intersect_together};
+use tib_texts::trimmed_form;
 use tib_tree::Labels;
 
 // The canonical form of the pairs of two trimmed forms that a hunt returned, or the status with

@@ -13,12 +13,12 @@ use std::thread::Threads;
 use tib_apply::ApplyError;
 use tib_canon::{Begin, Printed, over_keys_texts_are_read, to_grammar};
 use tib_cost::Semiring;
+use tib_expand::{Found, Gate};
 use tib_grammar::Rule;
 use tib_grammar_file::printable_is_labelled;
-use tib_expand::{Found, Gate};
 use tib_image::parse::Key;
-use tib_reached::{parse, parse_together};
 use tib_operations::Status;
+use tib_reached::{parse, parse_together};
 use tib_strings::StringTransducer;
 use tib_tree::{Label, Labels};
 

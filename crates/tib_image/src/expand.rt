@@ -4,8 +4,8 @@ use crate::key::Key;
 use crate::operation::Image;
 use std::alloc::{AllocError, Global};
 use tib_cost::Semiring;
-use tib_grammar::Rule;
 use tib_expand::{Edges, Expand, ExpandError};
+use tib_grammar::Rule;
 use tib_key_edges::{SideRule, settled_side};
 use tib_transducer::Pair;
 

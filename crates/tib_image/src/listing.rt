@@ -11,8 +11,8 @@ ghost use Rattle.tib_image.specs.Image.{pair_key};
 use crate::key::Key;
 use std::alloc::AllocError;
 use tib_cost::Cost;
-use tib_grammar::{Item, Side};
 use tib_expand::ExpandError;
+use tib_grammar::{Item, Side};
 use tib_key_edges::SideListing;
 use tib_transducer::Pair;
 

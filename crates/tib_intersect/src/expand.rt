@@ -10,8 +10,8 @@ use crate::pair_rule::PairRule;
 use crate::pairs::Pairs;
 use std::alloc::{AllocError, Global};
 use tib_cost::Semiring;
-use tib_grammar::{Rule, Side};
 use tib_expand::{Edges, Expand, ExpandError};
+use tib_grammar::{Rule, Side};
 use tib_key_edges::StatePair;
 
 /// The positions of the ends of a rule.

@@ -11,8 +11,8 @@ ghost use Rattle.tib_grammar.specs.Items.{state_in};
 use crate::pair_rule::PairRule;
 use std::alloc::{AllocError, Global};
 use tib_cost::Semiring;
-use tib_grammar::{Item, Rule};
 use tib_expand::{Edges, ExpandError};
+use tib_grammar::{Item, Rule};
 use tib_key_edges::StatePair;
 
 /// Appends the pairs of the states of the items to the ends.

@@ -22,8 +22,8 @@ use crate::weights::{costs_of, numbered};
 use std::alloc::{AllocError, Global};
 use tib_cost::{Cost, Semiring};
 use tib_grammar::Grammar;
-use tib_ranked_trees::label_ranks;
 use tib_normal::Normal;
+use tib_ranked_trees::label_ranks;
 use tib_tree::Labels;
 
 // Whether the product of 1 and 1 is 1, as it is if the product is the greater factor.

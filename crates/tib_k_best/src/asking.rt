@@ -18,9 +18,9 @@ ghost use Rattle.tib_k_best.specs.declared.asking.Form.TheVariants.{Deterministi
 use crate::error::KBestError;
 use crate::first::first_trees;
 use std::alloc::{AllocError, Global};
-use tib_lazy_lists::{AskError, ask_best, ask_lazily};
 use tib_cost::Semiring;
 use tib_grammar::Rule;
+use tib_lazy_lists::{AskError, ask_best, ask_lazily};
 use tib_ranked_trees::Lists;
 use tib_tree::Labels;
 

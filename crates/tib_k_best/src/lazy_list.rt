@@ -22,8 +22,8 @@ use std::alloc::Global;
 use std::marker::Model;
 use tib_cost::Semiring;
 use tib_grammar::Rule;
-use tib_ranked_trees::{Entry, Lists, Shared, label_ranks};
 use tib_normal::Normal;
+use tib_ranked_trees::{Entry, Lists, Shared, label_ranks};
 use tib_tree::Labels;
 
 /// The lists of all states, each from its best tree on: that of the start, and of the others what

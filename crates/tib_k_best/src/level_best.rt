@@ -15,8 +15,8 @@ use crate::search::{Split, split_levels};
 use crate::weights::{by_cost, first_places, weights_of};
 use std::alloc::{AllocError, Global};
 use tib_cost::{Cost, Semiring};
-use tib_ranked_trees::label_ranks;
 use tib_normal::Normal;
+use tib_ranked_trees::label_ranks;
 use tib_tree::Labels;
 
 // The cost in the whole grammar of each tree of a list, with its place, by cost.

@@ -4,10 +4,10 @@
 #![tactic(auto)]
 
 mod advancing;
+mod any_grammar;
 mod asking;
 mod best;
 mod error;
-mod any_grammar;
 mod first;
 mod laws;
 mod lazy_list;
@@ -21,9 +21,9 @@ mod search;
 mod settling;
 mod weights;
 
+pub use any_grammar::{best_trees, k_best};
 pub use best::best_of_rules;
 pub use error::KBestError;
-pub use any_grammar::{best_trees, k_best};
 pub use first::first_trees;
 pub use laws::trimmed_has_trees;
 pub use lazy_list::{LazyList, lazy_k_best, lazy_of_rules};

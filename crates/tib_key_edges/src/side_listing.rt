@@ -7,8 +7,8 @@ ghost use Rattle.tib_key_edges.specs.Listing.{IsReady, HasRule, IsWithinBudget};
 use crate::side_rule::SideRule;
 use std::alloc::Global;
 use tib_cost::Cost;
-use tib_grammar::Side;
 use tib_expand::{Edges, ExpandError};
+use tib_grammar::Side;
 
 /// The edges of the key at a position, listed so far, within a budget of parts.
 #[derive(Drop)]

@@ -5,15 +5,13 @@ ghost use Rattle.tib_expand.specs.Reached.{most_parts, IsBeyond};
 ghost use Rattle.tib_apply.specs.Applied.{IsReachedBy, HasPartsOf, AreOverOrder, IsApplyFault};
 ghost use Rattle.tib_apply.specs.Operations.{inverse_image};
 
-use tib_apply::Backward;
-use tib_apply::ApplyError;
-use tib_apply::Key;
 use std::alloc::Global;
 use std::sync::Wait;
 use std::thread::Threads;
+use tib_apply::{ApplyError, Backward, Key};
 use tib_cost::Semiring;
-use tib_grammar::Rule;
 use tib_expand::{Found, Gate};
+use tib_grammar::Rule;
 use tib_hunt::{hunt, hunt_alone};
 use tib_normal::Normal;
 use tib_transducer::Transducer;

@@ -7,11 +7,10 @@ ghost use Rattle.tib_transducer.specs.Range.{AreShaped};
 ghost use Rattle.tib_key_edges.specs.Composition.{composition};
 ghost use Rattle.tib_compose.specs.Composed.{AreOverOrder, HasPartsOf, IsComposeFault, IsReachedBy};
 
-use tib_compose::Composite;
-use tib_compose::ComposeError;
 use std::alloc::Global;
 use std::sync::Wait;
 use std::thread::Threads;
+use tib_compose::{ComposeError, Composite};
 use tib_cost::Semiring;
 use tib_expand::{Found, Gate};
 use tib_hunt::{hunt, hunt_alone};

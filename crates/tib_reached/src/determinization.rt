@@ -5,14 +5,13 @@ ghost use Rattle.tib_expand.specs.Reached.{most_parts, IfTooMany, IsBeyond};
 ghost use Rattle.tib_determinize.specs.Answered.{HasParts, IsAnswer};
 ghost use Rattle.tib_determinize.specs.Determinization.{determinization};
 
-use tib_determinize::Residuals;
-use tib_determinize::Vector;
 use std::alloc::Global;
 use std::sync::Wait;
 use std::thread::Threads;
 use tib_cost::Semiring;
-use tib_grammar::Rule;
+use tib_determinize::{Residuals, Vector};
 use tib_expand::{Found, Gate, HuntError};
+use tib_grammar::Rule;
 use tib_hunt::{hunt, hunt_alone};
 use tib_normal::Normal;
 

@@ -5,14 +5,14 @@ ghost use Rattle.tib_expand.specs.Reached.{most_parts, IfTooMany, IsBeyond};
 ghost use Rattle.tib_intersect.specs.Answered.{IsIntersection, IsGrammar, HasParts, HaveRootsOf};
 ghost use Rattle.tib_intersect.specs.Intersection.{intersection};
 
-use tib_intersect::Pairs;
 use std::alloc::Global;
 use std::sync::Wait;
 use std::thread::Threads;
 use tib_cost::Semiring;
-use tib_grammar::Rule;
 use tib_expand::{Found, Gate, HuntError};
+use tib_grammar::Rule;
 use tib_hunt::{hunt, hunt_alone};
+use tib_intersect::Pairs;
 use tib_key_edges::StatePair;
 use tib_normal::Normal;
 

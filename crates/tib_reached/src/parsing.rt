@@ -5,17 +5,16 @@ ghost use Rattle.tib_expand.specs.Reached.{most_parts};
 ghost use Rattle.tib_strings.specs.Range.{AreLinear, AreNondeleting};
 ghost use Rattle.tib_image.specs.ParseAnswered.{IsParsed, AreOverOrder, HasParts, HasStringSeries, IsParseFault};
 
-use tib_image::parse::Key;
-use tib_image::parse::laws::reached_parses;
-use tib_image::parse::Parse;
 use std::alloc::Global;
 use std::sync::Wait;
 use std::thread::Threads;
 use tib_apply::ApplyError;
 use tib_cost::Semiring;
-use tib_grammar::Rule;
 use tib_expand::{Found, Gate};
+use tib_grammar::Rule;
 use tib_hunt::{hunt, hunt_alone};
+use tib_image::parse::laws::reached_parses;
+use tib_image::parse::{Key, Parse};
 use tib_strings::StringTransducer;
 use tib_tree::Label;
 

@@ -5,15 +5,14 @@ ghost use Rattle.tib_expand.specs.Reached.{most_parts, IfTooMany, IsBeyond};
 ghost use Rattle.tib_image.specs.Answered.{IsImage, AreOverOrder, HasParts};
 ghost use Rattle.tib_image.specs.Image.{image_of};
 
-use tib_image::Key;
-use tib_image::Image;
 use std::alloc::Global;
 use std::sync::Wait;
 use std::thread::Threads;
 use tib_cost::Semiring;
-use tib_grammar::Rule;
 use tib_expand::{Found, Gate, HuntError};
+use tib_grammar::Rule;
 use tib_hunt::{hunt, hunt_alone};
+use tib_image::{Image, Key};
 use tib_transducer::Transducer;
 use tib_tree::Tree;
 

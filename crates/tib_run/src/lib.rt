@@ -15,5 +15,9 @@ mod together;
 
 pub use command::{run, run_alone};
 pub use log::tell;
-pub use tib_job::{answers_are_one, answers_exclude_too_many, answers_exist, files_have_no_fault, in_class_or_outside, jobs_have_answers, runs_end_alike, statuses_are_one, texts_are_one, within_or_too_many};
+pub use tib_job::{
+    answers_are_one, answers_exclude_too_many, answers_exist, files_have_no_fault,
+    in_class_or_outside, jobs_have_answers, runs_end_alike, statuses_are_one, texts_are_one,
+    within_or_too_many,
+};
 pub use tib_operations::Status;

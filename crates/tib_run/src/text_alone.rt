@@ -11,14 +11,16 @@ use std::alloc::Global;
 use std::thread::Threads;
 use tib_command::{Job, Operation};
 use tib_cost::Semiring;
-use tib_grammar::Grammar;
 use tib_expand::Gate;
+use tib_grammar::Grammar;
+use tib_hunted_texts::{
+    comparison_of, composition_of, demo_of, determinization_of, forward_image_of, intersection_of,
+    inverse_image_of, outputs_of, parse_of,
+};
 use tib_io::GrowingSink;
 use tib_job::Values;
-use tib_hunted_texts::{comparison_of, parse_of};
 use tib_operations::Status;
 use tib_texts::{canonical_normal, canonical_pruned, demand, demand_plain, kbest_text};
-use tib_hunted_texts::{composition_of, demo_of, determinization_of, forward_image_of, intersection_of, outputs_of, inverse_image_of};
 use tib_tree::Labels;
 
 /// The whole text of a job by one worker, of the values of its files over their table of labels, or
@@ -53,7 +55,9 @@ pub(crate) fn text_of<S: Semiring + Sync + Drop, R: Threads + Sync, G: Gate>(
         Values::GrammarAndTransducer(grammar, transducer) => {
             match demand::<S>(transducer, 2, true, false) {
                 Ok(()) => {
-                    grammar_text(forward_image_of::<S, G>(alloc, grammar, transducer, labels, limit, gate))
+                    grammar_text(forward_image_of::<S, G>(
+                        alloc, grammar, transducer, labels, limit, gate,
+                    ))
                 }
                 Err(status) => Err(status),
             }

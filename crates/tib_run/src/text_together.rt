@@ -14,11 +14,14 @@ use std::thread::Threads;
 use tib_command::{Job, Operation};
 use tib_cost::Semiring;
 use tib_expand::Gate;
+use tib_hunted_texts::{
+    comparison_of_together, composition_of_together, demo_of_together, determinization_of_together,
+    forward_image_of_together, intersection_of_together, inverse_image_of_together,
+    outputs_of_together, parse_of_together,
+};
 use tib_io::GrowingSink;
 use tib_job::Values;
-use tib_hunted_texts::{comparison_of_together, parse_of_together};
 use tib_operations::Status;
-use tib_hunted_texts::{composition_of_together, demo_of_together, determinization_of_together, forward_image_of_together, intersection_of_together, outputs_of_together, inverse_image_of_together};
 use tib_texts::{demand, demand_plain};
 use tib_tree::Labels;
 

@@ -3,11 +3,11 @@ ghost use Rattle.std.specs.Prelude.{◌≡◌, ◌<◌, ◌++◌, [], ◌∷◌,
 ghost use Rattle.std.specs.List.{IsDistinct, All};
 ghost use Rattle.indexmap.specs.IndexSet.{insert_key};
 
-use tib_expand::TableKey;
 use crate::problem::{Entry, Problem};
 use crate::shelf::Shelf;
 use std::alloc::{AllocError, Global};
 use std::marker::Model;
+use tib_expand::TableKey;
 use tib_turn::Grows;
 
 /// One of the shelves of a table, with its place in the table. Each of its keys names that place.

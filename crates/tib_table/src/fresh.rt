@@ -11,13 +11,12 @@ ghost use Rattle.tib_expand.specs.Keys.{key_parts};
 ghost use Rattle.tib_table.specs.Numbered.{all_on};
 ghost use Rattle.tib_table.specs.Lookups.{IsNeedless};
 
-use tib_expand::HuntError;
 use crate::halves::sort_by_halves;
-use tib_expand::TableKey;
 use crate::numbering::put_new;
 use indexmap::IndexSet;
 use std::alloc::{AllocError, Global};
 use std::thread::Threads;
+use tib_expand::{HuntError, TableKey};
 
 /// Whether keys that come to an order are looked up in it.
 #[derive(Clone, Copy, Debug, Drop, PartialEq, Eq)]

@@ -8,10 +8,9 @@ ghost use Rattle.tib_expand.specs.Limits.{IfTooMany};
 ghost use Rattle.tib_table.specs.Numbered.{Name, HaveMore, KeyExceeds, AddsParts, placed, keys_of, Moved, IsInOrder};
 ghost use Rattle.tib_expand.specs.Keys.{key_parts};
 
-use tib_expand::HuntError;
-use tib_expand::TableKey;
 use indexmap::IndexSet;
 use std::alloc::{AllocError, Global};
+use tib_expand::{HuntError, TableKey};
 
 // The number of a key among the keys. Appends a new key and adds its parts; `TooMany` if they pass
 // the limit.

@@ -3,7 +3,6 @@ ghost use Rattle.std.specs.Prelude.{◌≡◌, [], replicate, length, IfOk, IfEr
 ghost use Rattle.tib_table.specs.Known.{Names, GoOn, KeepNames, longest, IsNumbering, AreShelves};
 
 use crate::board::Board;
-use tib_expand::TableKey;
 use crate::number::Number;
 use crate::problem::Problem;
 use crate::shelves::Shelves;
@@ -11,6 +10,7 @@ use crate::turns::{SHELVES, close_locks, number_in_turn, open_locks};
 use std::alloc::{AllocError, Global};
 use std::marker::Model;
 use std::sync::Wait;
+use tib_expand::TableKey;
 use tib_turn::{Pass, TurnLock};
 
 /// Sixteen shelves of keys, each under a lock of its own.

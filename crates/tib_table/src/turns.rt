@@ -7,10 +7,10 @@ ghost use Rattle.tib_table.specs.Kept.{shelf_log};
 ghost use Rattle.tib_table.specs.Seated.{IsLogOf, known_of, lock_of, Closes, AreOpened};
 
 use crate::board::Board;
-use tib_expand::TableKey;
 use crate::problem::Problem;
 use std::alloc::{AllocError, Global};
 use std::sync::Wait;
+use tib_expand::TableKey;
 use tib_turn::{Pass, TurnLock};
 
 /// How many shelves a table has.

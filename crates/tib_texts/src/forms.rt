@@ -10,13 +10,13 @@ ghost use Rattle.tib_canon.specs.TrimmedForms.{IsTrimmedForm};
 ghost use Rattle.tib_operations.specs.Forms.{IsNamedForm, KeepsNames};
 ghost use Rattle.tib_operations.specs.Made.{IsLimit, normal_form, IsMadeFault};
 
-use tib_operations::Status;
 use std::alloc::Global;
 use tib_canon::{normal_forms_are_printable, trimmed_is_printable};
 use tib_cost::{Cost, Semiring};
 use tib_grammar::Grammar;
 use tib_k_best::trimmed_has_trees;
 use tib_normal::{Normal, NormalError, normalize};
+use tib_operations::Status;
 use tib_prune::trim_with_insides;
 
 // The laws of the product. A function whose semiring is shared among threads has them by a call of

@@ -14,7 +14,6 @@ ghost use Rattle.tib_operations.specs.Made.{IsLimit};
 ghost use Rattle.tib_prune.specs.Loop.{AreInsidesOfAll};
 
 use crate::forms::{costed_form, trimmed_form};
-use tib_operations::Status;
 use crate::text::add_line;
 use std::alloc::{AllocError, Global};
 use tib_canon::trimmed_is_printable;
@@ -25,6 +24,7 @@ use tib_inside::trim_normal;
 use tib_io::{Failed, GrowingSink};
 use tib_k_best::{KBestError, Ranked, best_trees, trimmed_has_trees};
 use tib_normal::Normal;
+use tib_operations::Status;
 use tib_prune::prune_to_count;
 use tib_tree::Labels;
 

@@ -5,12 +5,12 @@ ghost use Rattle.tib_operations.specs.Made.{IsLimit, IsMadeFault};
 ghost use Rattle.tib_operations.specs.Normal.{HasNormalText, IsNormalText, normal_makes};
 
 use crate::forms::normal_of;
-use tib_operations::Status;
 use std::alloc::Global;
 use tib_canon::{Printed, canonical, normal_forms_are_printable, normal_texts_are_read};
 use tib_cost::Semiring;
 use tib_grammar::Grammar;
 use tib_grammar_file::printable_is_labelled;
+use tib_operations::Status;
 use tib_tree::Labels;
 
 /// The canonical form of the grammar's normal form. `TooMany` only where that has more parts than

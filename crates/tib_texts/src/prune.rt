@@ -6,12 +6,12 @@ ghost use Rattle.tib_operations.specs.Made.{IsLimit, IsMadeFault};
 ghost use Rattle.tib_operations.specs.Prune.{IsBeam, IsPrunedForm, KeepsWithin, HasPruneText, IsPruneText, prune_makes};
 
 use crate::forms::costed_form;
-use tib_operations::Status;
 use std::alloc::Global;
 use tib_canon::{Printed, canonical, canonical_texts_are_read};
 use tib_cost::{Cost, Semiring};
 use tib_grammar::Grammar;
 use tib_grammar_file::printable_is_labelled;
+use tib_operations::Status;
 use tib_prune::prune_by_insides;
 use tib_tree::Labels;
 

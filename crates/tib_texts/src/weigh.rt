@@ -6,12 +6,12 @@ ghost use Rattle.tib_operations.specs.Made.{IsLimit, IsMadeFault};
 ghost use Rattle.tib_operations.specs.Weigh.{weigh_makes};
 
 use crate::forms::normal_of;
-use tib_operations::Status;
 use std::alloc::Global;
 use std::thread::Threads;
 use tib_cost::{Cost, Semiring};
 use tib_grammar::Grammar;
 use tib_normal::Normal;
+use tib_operations::Status;
 use tib_tree::Tree;
 use tib_weigh::weigh_all;
 

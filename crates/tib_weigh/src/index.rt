@@ -196,7 +196,10 @@ impl RuleIndex {
 
     /// The index of all rules of a grammar. It takes time and memory in proportion to the items of
     /// the rules.
-    pub(crate) fn new<S: Semiring>(alloc: Global, normal: &Normal<S>) -> Result<RuleIndex, AllocError>
+    pub(crate) fn new<S: Semiring>(
+        alloc: Global,
+        normal: &Normal<S>,
+    ) -> Result<RuleIndex, AllocError>
         ensures { IfOk result (IsIndex S.product normal.now.rules) }
     {
         let mut index = RuleIndex::empty(alloc);

@@ -13,8 +13,8 @@ use crate::parse::spans::Span;
 use std::alloc::AllocError;
 use tib_apply::Restrictions;
 use tib_cost::Cost;
-use tib_grammar::{Item, Side};
 use tib_expand::ExpandError;
+use tib_grammar::{Item, Side};
 use tib_key_edges::{SideListing, SideRule};
 use tib_transducer::Variable;
 
