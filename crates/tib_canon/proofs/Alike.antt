@@ -84,7 +84,7 @@ live_moved product xs ys a n m below is l =
       within = subst (λ (r : Rule ℕ). product r.cost (product_of product l.insides) ≤ most) (sym is) l.within;
     }
 
--- useful states depend on the members alone
+-- useful states depend only on the members
 pub useful_moved : (product : ℕ → ℕ → ℕ) (xs ys : List (Rule ℕ)) → AreAlike xs ys → (q : ℕ) → IsUseful product xs q → IsUseful product ys q
 useful_moved product xs ys a _ (useful.start c i) = useful.start c (inside_moved product xs ys a 0 c i)
 useful_moved product xs ys a _ (useful.below n q u l s) =

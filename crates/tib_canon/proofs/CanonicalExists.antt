@@ -1,4 +1,4 @@
--- Each grammar that can be printed has a canonical form: that it has none cannot be.
+-- Each grammar that can be printed has a canonical form: it is impossible that it has none.
 use Rattle.tib_cost.specs.declared.Scale.{Scale}
 use Rattle.tib_cost.specs.declared.Scale.TheVariants as scales
 use Rattle.std.proofs.Common.{◌≡◌, ℕ, ◌<◌, ◌≤◌, Bool, List, length, sym, subst, arith}

@@ -1,4 +1,4 @@
--- Of values that agree one of the cheapest can be listed: that they can not be cannot be.
+-- Of values that agree one of the cheapest can be listed: it is impossible that they cannot.
 use Rattle.std.specs.Prelude.{◌≡◌, ◌≤◌, ℕ, List, [], ◌∷◌}
 use Rattle.std.proofs.Common.{◌⊎◌, refl, ap, sym, ◌∙◌, arith, inl, inr}
 use Rattle.tib_lex.specs.Lists.{Has, Each, Ascends}
@@ -101,7 +101,7 @@ module _
   )
   without (y ∷ values) t a (inr k) = let w = without values t a.1 k in (y ∷ w.0, without_more y t values w.0 a.0 k w.1)
 
-  -- and one that is cheaper is in its stead
+  -- and one that is cheaper is in its place
   module _ (r : R) (values listed : List R) (m : AreLeastOf cost Agree values listed) (w : HasAlike Agree listed r) (cheap : cost r ≤ cost w.value) (rest : List R) (o : AreWithout listed w.value rest) where
     to_old : (x : R) → r ≡ x → Agree w.value x
     to_old x e = on w.value r x w.agrees (itself r x e)

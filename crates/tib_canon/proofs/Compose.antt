@@ -235,7 +235,7 @@ read_composes product scale labels limit t u h read text c few reads series a v 
     let is = series a v w in
     (λ k. is.0 (same.1 k), λ k. same.0 (is.1 k))
 
--- where the pairs that are reached are within the limit, it cannot be that there is no text
+-- where the pairs that are reached are within the limit, it is impossible that there is no text
 pub compose_there :
     {levelled weighed : Bool} {product : ℕ → ℕ → ℕ} → ProductLaws levelled weighed product → (scale : Scale) (limit : ℕ) → limit ≤ 4294967296 → (labels : List (List ℕ)) → Distinct labels → (t u : TransducerOf) →
     AreMovesOver scale labels (length t.names) t.rules → AreMovesOver scale labels (length u.names) u.rules → ArePlain u.rules → HasReachedWithin (composition product t.rules u.rules) limit →

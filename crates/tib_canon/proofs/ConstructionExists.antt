@@ -1,5 +1,5 @@
--- Where a construction reaches a set within the limit, it cannot be that this has no canonical form
--- that reads back.
+-- Where a construction reaches a set within the limit, it is impossible that this has no canonical
+-- form that reads back.
 use Rattle.tib_cost.specs.declared.Scale.{Scale}
 use Rattle.std.proofs.Common.{◌≡◌, ℕ, ◌<◌, ◌≤◌, Bool, List, [], ◌∷◌, length, map, get_or, sym, subst, arith}
 use Rattle.std.proofs.lemmas.List.{get_or-map, length-map}

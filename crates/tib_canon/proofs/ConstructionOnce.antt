@@ -116,7 +116,7 @@ module _ (labels others : List (List ℕ)) (f : ℕ → ℕ) (n : Renumbers labe
       let at = at_has ys (rule_with f r) no_rule (stand (rule_with f r) (mapped_has (rule_with f) xs r h)) in
       side_kept (only r.right) (subst (λ (x : Rule ℕ). HavePlainLabels others (only x.right)) at.2 (printable at.0 at.1).right)
 
--- Two constructions over two tables of labels, of which the one reaches what the other does, but
+-- Two constructions over two tables of labels, of which the one reaches what the other does, except
 -- for the numbers of labels.
 pub record AreConstructionsAlike {K O : Type 0} (f : ℕ → ℕ) (c d : Construction K O) : Type 0 where
   pub cmp : c.problem.cmp ≡ d.problem.cmp

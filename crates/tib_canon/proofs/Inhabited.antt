@@ -32,7 +32,7 @@ module _ (product : ℕ → ℕ → ℕ) (rules : List (Rule ℕ)) where
     | inr e ↦ subst (λ p. IsInside product rules p (get_or (costs ++ v ∷ []) p None)) (sym e) (subst (IsInside product rules (length costs)) (sym (get_or-append_seam costs v [] None)) i)
   ]
 
-  -- that the inside costs of the states below a number are none that there are cannot be
+  -- it is impossible that the states below a number have no inside costs
   pub insides_are : (count : ℕ) → ((costs : List (Option ℕ)) → length costs ≡ count → AreInsides product rules costs → ⊥) → ⊥
   insides_are zero k = k [] refl (λ q h. absurd (omega arith))
   insides_are (suc n) k =
@@ -57,7 +57,7 @@ module _ (product : ℕ → ℕ → ℕ) (rules : List (Rule ℕ)) where
   useful_below count some range _ (useful.start c i) = some
   useful_below count some range _ (useful.below n q u l s) = below_has count (holes_of (rule_at rules n).right) q (range n l.below).1 s
 
-  -- that no live rule is one of a useful state cannot be
+  -- it is impossible that no live rule is one of a useful state
   live_of :
       {levelled weighted : Bool} → ProductLaws levelled weighted product → (count : ℕ) → AreInRange count rules → (q : ℕ) → IsUseful product rules q → ((n : ℕ) → IsLive product rules n → (rule_at rules n).left ≡ q → ⊥) → ⊥
   live_of laws count range q u k =
@@ -125,7 +125,7 @@ module _
       ap (λ (r : Rule ℕ). r.left) (named_at product g h t at.0 below) ∙ ap (λ (m : ℕ). (rule_at g.rules m).left) at.2 ∙ e in
       (at.0, below, place_told t.states (rule_at h.rules at.0).left q t.states_ascend (t.in_range at.0 below).0 within named)
 
-  -- each state that is kept, the start excepted, has a rule that is kept
+  -- each state that is kept except the start has a rule that is kept
   pub states_have_rules : (q : ℕ) → 0 < q → q < length t.states → IsLeftIn h.rules q
   states_have_rules q some within =
       let u = other_useful q some within in

@@ -15,7 +15,7 @@ use Rattle.tib_canon.proofs.Permuting.{has_permuted, distinct_permuted}
 use Rattle.tib_lex.proofs.Members.{each_has, each_of}
 use Rattle.tib_lex.proofs.Lists.{Ascends-from}
 
--- a key with its position, and whether it is another than the start
+-- a key with its position, and whether it is not the start
 abbrev Mark : Type 0 → Type 0
 Mark K = Bool × K × ℕ
 

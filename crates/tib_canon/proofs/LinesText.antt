@@ -16,7 +16,7 @@ lines-append [] ys = refl
 lines-append (x ∷ xs) ys =
     ap (λ (t : List ℕ). (x.text.now ++ 10 ∷ []) ++ t) (lines-append xs ys) ∙ sym (append_assoc (x.text.now ++ 10 ∷ []) (lines_text xs) (lines_text ys))
 
--- one line more
+-- one more line
 pub lines_more :
     (lines : List Line) (i : ℕ) (d : Line) (front old new : List ℕ) → i < length lines → old ≡ front ++ lines_text (take i lines) →
     new ≡ old ++ ((get_or lines i d).text.now ++ 10 ∷ []) → new ≡ front ++ lines_text (take (i + 1) lines)

@@ -1,5 +1,5 @@
--- Rules over the positions of an order have a grammar over its keys, and it cannot be that this has
--- no canonical form.
+-- Rules over the positions of an order have a grammar over its keys, and it is impossible that this
+-- has no canonical form.
 use Rattle.tib_cost.specs.declared.Scale.{Scale}
 use Rattle.std.proofs.Common.{◌≡◌, ℕ, ◌<◌, ◌≤◌, Bool, List, [], ◌∷◌, ◌++◌, length, map, get_or, refl, ap, sym, ◌∙◌, subst, arith, zero, suc, inl, inr, length-append}
 use Rattle.std.specs.Cmp.{IsTotalOrder}

@@ -35,7 +35,7 @@ module _ (scale : Scale) (names labels : List (List ℕ)) where
   pub no_texts : AreTexts scale names labels [] [] []
   no_texts = record { whole = refl; long = refl; places = λ i h. absurd (omega arith) }
 
-  -- one line more
+  -- one more line
   pub texts_more :
       (rules : List (Rule ℕ)) (text ends : List ℕ) (r : Rule ℕ) (text1 ends1 : List ℕ) → AreTexts scale names labels rules text ends → text1 ≡ text ++ rule_text scale names labels r → ends1 ≡ ends ++ length text1 ∷ [] →
       AreTexts scale names labels (rules ++ r ∷ []) text1 ends1
@@ -103,7 +103,7 @@ module _ (scale : Scale) (names labels : List (List ℕ)) where
 pub mapped_more : {A B : Type 0} (f : A → B) (xs : List A) (d : A) (n : ℕ) → n < length xs → map f (take (n + 1) xs) ≡ map f (take n xs) ++ f (get_or xs n d) ∷ []
 mapped_more f xs d n h = ap (map f) (take_more xs n d h) ∙ map-append f (take n xs) (get_or xs n d ∷ [])
 
--- the texts of the rules at positions, with one position more
+-- the texts of the rules at positions, with one more position
 pub texts_on :
     (scale : Scale) (names labels : List (List ℕ)) (rules : List (Rule ℕ)) (positions : List ℕ) (n : ℕ) (text ends text1 ends1 : List ℕ) (r : Rule ℕ) →
     AreTexts scale names labels (map (rule_at rules) (take n positions)) text ends → n < length positions → r ≡ rule_at rules (get_or positions n 0) → text1 ≡ text ++ rule_text scale names labels r →
@@ -146,7 +146,7 @@ module _ (rules : List (Rule ℕ)) (positions text ends : List ℕ) (n begin : �
       pub are : (scale : Scale) (names labels : List (List ℕ)) → AreTexts scale names labels (map (rule_at rules) positions) text ends → Each (IsLineAt scale names labels rules) now
       pub at : map (λ (l : Line). l.position) now ≡ take (n + 1) positions
 
-    -- one line more
+    -- one more line
     pub lines_on :
         (now : List Line) → ((scale : Scale) (names labels : List (List ℕ)) → AreTexts scale names labels (map (rule_at rules) positions) text ends → Each (IsLineAt scale names labels rules) lines) →
         map (λ (l : Line). l.position) lines ≡ take n positions → now ≡ lines ++ line ∷ [] → AreOn now

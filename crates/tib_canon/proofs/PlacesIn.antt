@@ -61,7 +61,7 @@ module _ {P Q : Type 0} (f : P → Q) (g : Q → P) where
       let side : side_map g (side_map f r.right) ≡ r.right = ap (first_of d) (relabel_back (only r.right) h l) in
       ap (λ z. record { left = z; right = side_map g (side_map f r.right); cost = r.cost }) a ∙ ap (λ s. record { left = r.left; right = s; cost = r.cost }) side
 
--- a rule over the values of a list, with places in their stead
+-- a rule over the values of a list, with places instead of them
 module _ {A : Type 0} (same : (x y : A) → (x ≡ y) ⊎ (x ≡ y → ⊥)) (d : A) (xs : List A) (r : Rule A) (left : Has xs r.left) (right : (q : A) → Has (holes_of r.right) q → Has xs q) where
   pub placed_in_range : IsInRange (length xs) (named_rule (place_in same xs) r)
   placed_in_range = (

@@ -90,7 +90,7 @@ trees_end f r (tree (hole x) (tree s kids more) rest) h = absurd h
 pub ends_with : {P : Type 0} (f : ℕ → ℕ) (r : TransducerRule P) → EndsInHoles r → EndsInHoles (move_with f r)
 ends_with f r h = (trees_end f (variable_with f) (only r.left) h.0, trees_end f (λ x. x) (only r.right) h.1)
 
--- rules that agree by the texts of their labels are one under the numbers of the other table
+-- rules that agree by the texts of their labels are one with the numbers of the other table
 
 module _ (labels others : List (List ℕ)) (f : ℕ → ℕ) (n : Renumbers labels others f) where
   pub asked_given : (a b : Option ℕ) → AskForOneText labels others a b → option_map f a ≡ b

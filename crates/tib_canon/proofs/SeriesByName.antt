@@ -1,4 +1,4 @@
--- Transducers that are the same but for the numbers of their states have one series.
+-- Transducers that are the same except for the numbers of their states have one series.
 use Rattle.tib_cost.specs.declared.Scale.{Scale}
 use Rattle.std.proofs.Common.{◌≡◌, ℕ, ◌<◌, ◌≤◌, inl, inr, List, [], ◌∷◌, ◌++◌, length, map, get_or, refl, ap, sym, ◌∙◌, subst, arith, Option}
 use Rattle.std.specs.Prelude.{◌↔◌}

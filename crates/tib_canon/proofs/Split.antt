@@ -72,7 +72,7 @@ pub is_something : (n : ℕ) → (n == 0) ≡ false → 0 < n
 is_something zero e = absurd (true≢false e)
 is_something (suc n) e = omega arith
 
--- a line more is cut off
+-- one more line is cut off
 pub goes_on :
     {B : Type 0} (v : B → List ℕ) (lines : List (List ℕ)) (done now : List B) (b : B) (rest next : List ℕ) (end : ℕ) → Goes lines (map v done) rest → 0 < length rest → end ≡ prefix_len not_feed rest → v b ≡ take end rest → now ≡ done ++ b ∷ [] →
     next ≡ drop (end + 1) rest → Goes lines (map v now) next

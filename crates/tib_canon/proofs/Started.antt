@@ -90,7 +90,7 @@ started_named numbers first finals rules =
     ∙ ap (λ (rs : List (Rule ℕ)). map (named_rule (number_in numbers)) (map chain_to finals) ++ rs) (rules_after (number_in (drop 1 numbers)) (number_in numbers) suc (number_behind numbers) rules)
     ∙ sym (map-append (named_rule (number_in numbers)) (map chain_to finals) (map (named_rule suc) rules))
 
--- each started rule is a chain rule, or a rule under the next numbers
+-- each started rule is a chain rule, or a rule with the next numbers
 
 module _ (finals : List (ℕ × ℕ)) where
   pub started_has :

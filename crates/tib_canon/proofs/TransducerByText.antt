@@ -173,7 +173,7 @@ module _ (labels others : List (List ℕ)) (f : ℕ → ℕ) (n : Renumbers labe
       let low : m < length xs = omega (arith, h, length-map xs (move_with f)) in
       subst EndsInHoles (sym (get_or-map (move_with f) xs m no_rule no_rule low)) (ends_with f (transducer_rule xs m) (leaves m low))
 
-  -- two canonical transducers of the same rules, but for the numbers of labels, have one text
+  -- two canonical transducers of the same rules, except for the numbers of labels, have one text
   pub text_once :
       {K : Type 0} (cmp : K → K → Ordering) → IsTotalOrder cmp → (scale : Scale) (order : List K) (xs ys : List (TransducerRule ℕ)) (start : ℕ) (h i : TransducerOf) → ((r : TransducerRule ℕ) → Has (moves_with f xs) r → Has ys r) →
       ((r : TransducerRule ℕ) → Has ys r → Has (moves_with f xs) r) → EndInHoles xs → EndInHoles ys → ((r : TransducerRule ℕ) → Has xs r → KeepsTexts labels others f n r) →

@@ -83,7 +83,7 @@ all_chosen rules n sides best all c = record {
       costs = w.1.costs;
     }
 
--- one rule more, by what was noted
+-- one more rule, by what was noted
 pub step_new :
     (rules : List (TransducerRule ℕ)) (n : ℕ) (sides now : List Sides) (best after : List ℕ) (k : Sides) (o : Option ℕ) → IsChoosing rules n sides best → AreSidesOf k (transducer_rule rules n) → IsNoted sides k o now → o ≡ None →
     after ≡ best ++ n ∷ [] → IsChoosing rules (n + 1) now after

@@ -90,7 +90,7 @@ module _ (labels others : List (List ℕ)) (f : ℕ → ℕ) (n : Renumbers labe
     right = right_plain (only r.right) (one_tree_of (right_with f r.right.label) (relabel (right_with f) r.right.kids) (λ s. IsPlainOnRight others s.0) p.right);
   }
 
--- Two constructions over two tables of labels, of which the one reaches what the other does, but
+-- Two constructions over two tables of labels, of which the one reaches what the other does, except
 -- for the numbers of labels.
 pub record AreTransducerConstructionsAlike {K O : Type 0} (f : ℕ → ℕ) (c d : TransducerConstruction K O) : Type 0 where
   pub cmp : c.problem.cmp ≡ d.problem.cmp
@@ -291,8 +291,8 @@ module _ {K O : Type 0} (scale : Scale) (labels : List (List ℕ)) (c : Transduc
               (inr (subst (λ (xs : List ℕ). Has xs p) (sym (states_named (place order) e.right)) (subst (Has (map (place order) (states_in e.right))) at (mapped_has (place order) (states_in e.right) k there))))
         ]
 
-  -- where a set is reached within the limit, it cannot be that it has no canonical transducer that
-  -- reads back
+  -- where a set is reached within the limit, it is impossible that it has no canonical transducer
+  -- that reads back
   pub transducer_construction_there :
       (limit : ℕ) → limit ≤ 4294967296 → Distinct labels → HasReachedWithin c.problem limit →
       ((h : TransducerOf) → IsCanonicalTransducerOf scale labels limit c h → (u : TransducerOf) × ReadsBack scale labels (transducer_text scale labels h) h u → ⊥) → ⊥

@@ -1,4 +1,4 @@
--- Rules over positions have a canonical transducer: that they have none cannot be.
+-- Rules over positions have a canonical transducer: it is impossible that they have none.
 use Rattle.tib_cost.specs.declared.Scale.{Scale}
 use Rattle.std.proofs.Common.{◌≡◌, ℕ, ◌<◌, ◌≤◌, List, [], length, map, get_or, refl, ap, sym, ◌∙◌, subst, arith}
 use Rattle.std.proofs.lemmas.List.{get_or-map}

@@ -1,4 +1,4 @@
--- Each grammar has a trimmed one: that it has none cannot be.
+-- Each grammar has a trimmed one: it is impossible that it has none.
 use Rattle.std.proofs.Common.{◌≡◌, ◌⊎◌, ℕ, ◌<◌, List, [], ◌∷◌, ◌++◌, length, map, get_or, sym, subst, arith, zero, suc, inl, inr, refl}
 use Rattle.std.proofs.lemmas.List.{get_or-map, length-map}
 use Rattle.tib_lex.specs.Lists.{Has, Ascends}

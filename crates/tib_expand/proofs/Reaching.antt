@@ -102,7 +102,7 @@ module _ {K O E : Type 0} (p : Exploration K O E) (laws : Laws p) where
       let d = ap (total p.edge_parts) is ∙ total_append p.edge_parts front last in
       omega arith
 
-  -- the edges of one position more than those
+  -- the edges of one more position than those
   pub more_parts : (order : List K) (n m : ℕ) (es fs : List E) (budget : ℕ) → AreEdges p order n es → Exceeds (p.edge order n) p.edge_parts budget → AreEdges p order (later m (suc n)) fs → total p.edge_parts es + budget < total p.edge_parts fs
   more_parts order n zero es fs budget a x (front, last, is, before, l) =
       let b = fewer_parts order n 0 es front a before in

@@ -156,7 +156,7 @@ module _ {P K O E R T : Type 0} (of : P → Exploration K O E) (reading : Readin
         })
 
   module _ (laws : Laws p) (known : List (List K)) where
-    -- one position more has at least the parts of its row
+    -- one more position has at least the parts of its row
     one_least : (n : ℕ) (slot : Option (Row (Ruled R))) → IsSlot gives items_in about known n slot → (d : K) (m : ℕ) → m ≡ first + n → (es fs : List E) → AreEdges p order m es → AreEdges p order (suc m) fs
         → total p.edge_parts es + slot_parts slot ≤ total p.edge_parts fs
     one_least n None a d m at es fs e f = let h = fewer_parts p laws order m 1 es fs e f in omega arith

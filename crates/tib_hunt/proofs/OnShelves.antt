@@ -71,7 +71,7 @@ module _ {K : Type 0} (eq : K → K → Bool) (same : (x y : K) → eq x y ≡ t
           go true q e = let a = total_set f kss i (on kss i) 0 low (omega arith) in omega arith
           go false q e = absurd (apart (got_last (on kss i) p k e (not_any eq same self k (on kss i) q)))
 
-    -- a number names its key still
+    -- a number still names its key
     pub still_names : (j p : ℕ) (x : K) → Names kss j p x → Names kss' j p x
     still_names j p x e = dite (ℕ_discrete j i)
         (λ q. subst (λ (m : ℕ). Names kss' m p x) (sym q) (ap (λ (l : List K). slice_get l p) here ∙ go (list_any (eq k) (on kss i)) (subst (λ (m : ℕ). Names kss m p x) q e)))
@@ -81,7 +81,7 @@ module _ {K : Type 0} (eq : K → K → Bool) (same : (x y : K) → eq x y ≡ t
         go true e = e
         go false e = get_left eq (on kss i) (k ∷ []) p x e
 
-    -- numbers name their keys still
+    -- numbers still name their keys
     pub still_name : (ends : List K) (ns : List Number) → NameOn kss ends ns → NameOn kss' ends ns
     still_name [] [] a = tt
     still_name [] (n ∷ ns) a = absurd a

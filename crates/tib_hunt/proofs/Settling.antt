@@ -133,7 +133,7 @@ length_moved : (f : ℕ → ℕ) (xs : List ℕ) → length (map f xs) ≡ lengt
 length_moved f [] = refl
 length_moved f (x ∷ xs) = ap suc (length_moved f xs)
 
--- what is asked of the ends of a row holds after they were moved
+-- what is required of the ends of a row holds after they were moved
 pub still_within : {R : Type 0} (places : R → List Place) (first bound : ℕ) (moved : List ℕ) (row : NumberedRow R) → IsRowBelow places first bound row
     → (ends : List ℕ) → ends ≡ map (moved_to first moved) row.ends → Each (λ rule. Each (IsWithin first (length ends)) (places rule)) row.rules
 still_within places first bound moved row low ends same =
@@ -165,7 +165,7 @@ module _ {K E R T : Type 0} (reading : Reading K E R T) (ends : List ℕ) where
   snoc_both f g old new done t r s is =
       map_both f new (t ∷ []) ∙ (λ i. s i ++ is i ∷ []) ∙ append_assoc (map f old) (map g done) (g r ∷ []) ∙ ap (λ l. map f old ++ l) (sym (map_both g done (r ∷ [])))
 
-  -- one rule more is settled
+  -- one more rule is settled
   pub settles_more : (old new : List T) (over : List R) (i : ℕ) (rule : R) → i < length over → rule ≡ get_or over i rule → Settles reading ends old (take i over) new
       → (settled : T) → ((at : ℕ → K) → reading.read_positions at settled ≡ reading.read_places (λ place. at (position_of ends place)) rule) → reading.positions settled ≡ map (position_of ends) (reading.places rule)
       → Settles reading ends old (take (i + 1) over) (new ++ settled ∷ [])

@@ -97,7 +97,7 @@ module _ {K O E R T : Type 0} {p : Exploration K O E} {admits : K → Type 0} {r
   rows_snoc d order (e ∷ sights) (r ∷ rows) shelves bound a ends row = ap (λ (l : List E). map (reading.read_places (key_at d order e)) r.rules.rules.items ++ l) (rows_snoc d order sights rows shelves bound a.1 ends row)
       ∙ sym (append_assoc (map (reading.read_places (key_at d order e)) r.rules.rules.items) (edges_of_rows reading.read_places d order sights rows) (map (reading.read_places (key_at d order ends)) row.rules.rules.items))
 
-  -- numbers name their keys still after more keys were numbered
+  -- numbers still name their keys after more keys were numbered
   name_still : (s : Core K) (ks : List K) → length s.shelves ≡ 16 → (first count : ℕ) (is_end : ℕ → K → Type 0) → IsKept shelf_of first count is_end s → ((k : K) → Has ks k → (i : ℕ) × IsItem first s.drawn i × is_end i k)
       → (ends : List K) (ns : List Number) → NameOn s.shelves ends ns → NameOn (with_keys eq shelf_of s ks).shelves ends ns
   name_still s [] wide first count is_end c drawn ends ns a = a

@@ -107,9 +107,9 @@ where
 }
 
 /// Settles the rules of all rows as `place_rows` does, by several threads. The rows are halved
-/// `times` times, down to 1,024 of them, and each half has a thread of its own where one can be
-/// started. A rule is moved once for each time that its row was in a second half. Err if memory is
-/// refused; the rules are then gone.
+/// `times` times, but never fewer than 1,024 of them, and each half has a thread of its own where
+/// one can be started. A rule is moved once for each time that its row was in a second half. Err if
+/// memory is refused; the rules are then gone.
 pub(crate) fn place_together<E: Expand + Sync, R: Threads + Sync>(
     rt: &R,
     alloc: Global,

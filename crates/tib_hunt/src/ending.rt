@@ -135,8 +135,8 @@ impl<E: Expand> HuntState<E> {
     }
 
     /// Ends a round of this number of workers, 1 or more. It takes in what they made without a
-    /// look-up, since the order has none of the keys of their shelves. As many threads sort the new
-    /// ends and settle the rows. Errors are those of `end_round`.
+    /// look-up, since the order has none of the keys of their shelves. At most as many threads sort
+    /// the new ends and settle the rows. Errors are those of `end_round`.
     pub fn end_round_together<R: Threads + Sync>(
         &mut self,
         rt: &R,

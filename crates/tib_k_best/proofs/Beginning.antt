@@ -264,7 +264,7 @@ begins product x w n start out k inside at all z x2 m f made =
     (subst (λ (i : ℕ). Begins product (with_candidate (with_ranks x (zeros (states_of (rule_at x.rules n)))) (new product x w n start out k inside at all)) w out i) (sym mk.0)
     (begins_here product x w n start out k inside at all mk.1))
 
--- the heap after a push, where it met memory
+-- the heap after a push that was not refused memory
 pub queue_on_ok : {T E : Type 0} (r : Result T E) (P Q : Type 0) → (P → Q) → OnOk r P → OnOk r Q
 queue_on_ok (Ok v) P Q f h = f h
 queue_on_ok (Err e) P Q f h = tt

@@ -24,7 +24,7 @@ use Rattle.tib_k_best.specs.Causes.{IsCause, IsFaultOf}
 use Rattle.tib_k_best.specs.declared.error.KBestError.{KBestError}
 use Rattle.tib_k_best.proofs.Starting.{as_many, no_list}
 
--- a product that is not the greater factor is strict, or all rules are free
+-- a product that is not the greater factor is strict, or all rules cost nothing
 pub orderly_of :
     (levelled weighted : Bool) (product : ℕ → ℕ → ℕ) → ProductLaws levelled weighted product → (rules : List (Rule ℕ)) → levelled ≡ false →
     (weighted ≡ false → (n : ℕ) → n < length rules → (rule_at rules n).cost ≡ 0) → IsOrderly product rules
@@ -82,7 +82,7 @@ pub best_listed :
     IsKBest product x.rules x.labels k xs → IsKBest product rules labels k xs
 best_listed product rules labels ranks states x k e xs h = subst (λ (z : ListsOf). IsKBest product z.rules z.labels k xs) e h
 
--- a fault of asked lists has its cause
+-- an error of asked lists has its cause
 pub fault_cause :
     (product : ℕ → ℕ → ℕ) (x y : ListsOf) (k : ℕ) → y.rules ≡ x.rules → y.labels ≡ x.labels → (a : AskError) (e : KBestError) → IsFaultOf a e → IsAskCause product y k a → IsCause product x.labels x.rules k e
 fault_cause product x y k r l (AskedTooLarge q) e is h =

@@ -24,7 +24,7 @@ few_in : (ls : List (List Entry)) → ((q : ℕ) → length (get_or ls q []) < 2
 few_in [] h = omega arith
 few_in (es ∷ ls) h = omega (arith, sum_by-cons long es ls, h 0, few_in ls (λ q. h (suc q)))
 
--- one list more is counted, and the sum fits
+-- one more list is counted, and the sum fits
 pub counted_next : (x : ListsOf) (q n m : ℕ) → q < length x.lists → n ≡ sum_by long (take q x.lists) → m ≡ length (list_of x q) → n + m ≡ sum_by long (take (q + 1) x.lists)
 counted_next x q n m h e g = omega (arith, e, g, sum_by_more long x.lists q [] h)
 

@@ -1,5 +1,5 @@
--- Rules that are trimmed: they stay in normal form, have the trees of the others, and their faults
--- are faults of useful states.
+-- Rules that are trimmed: they stay in normal form, have the trees of the others, and their errors
+-- are errors of useful states.
 use Rattle.std.specs.Prelude.{◌≡◌, ◌⊎◌, ◌↔◌, ℕ, ◌+◌, ◌<◌, ◌≤◌, Bool, Some, List, [], ◌∷◌, length, map, refl}
 use Rattle.std.proofs.Common.{zero, suc, arith, ap, sym, ◌∙◌, subst, inl, inr, get_or}
 use Rattle.std.proofs.lemmas.List.{length-map}
@@ -167,7 +167,7 @@ module _ (product : ℕ → ℕ → ℕ) (old : List (Rule ℕ)) (count : ℕ) (
         | inl start ↦ subst (IsUseful product old) (sym start) (start_useful laws labels old normal k (subst (HasLarge product labels old k) start l))
       ]
 
-  -- a fault of the trimmed rules is one of the others, and names a useful state
+  -- an error of the trimmed rules is one of the others, and names a useful state
   pub trimmed_cause :
       {levelled weighted : Bool} → ProductLaws levelled weighted product → AreNormal old → (labels : List (List ℕ)) (k : ℕ) (e d : KBestError) → IsRenamed states e d → IsCause product labels new k e →
       IsUsefulCause product labels old k d

@@ -19,7 +19,7 @@ use Rattle.tib_k_best.specs.Costs.{AreCosts}
 le_or : (a b : ℕ) → ((a ≤ b) × (nat_le a b ≡ true)) ⊎ ((b < a) × (nat_le a b ≡ false))
 le_or a b = grind (arith, nat_tests)
 
--- one rule more in a level, or one that costs too much
+-- one more rule in a level, or one that costs too much
 
 level_one : (c : ℕ) (r : Rule ℕ) (rules : List (Rule ℕ)) → r.cost ≤ c → level c (r ∷ rules) ≡ free r ∷ level c rules
 level_one c r rules h = elim (le_or r.cost c) [ inl k ↦ rw k.1 refl | inr k ↦ absurd (omega (arith, k.0, h)) ]

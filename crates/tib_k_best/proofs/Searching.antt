@@ -210,7 +210,7 @@ module _ {levelled weighted : Bool} {product : ℕ → ℕ → ℕ} (laws : Prod
           none = s.none end;
         })
 
--- a fault of a level is one of the grammar
+-- an error of a level is one of the grammar
 pub level_fault :
     (levelled : Bool) (product : ℕ → ℕ → ℕ) (labels : List (List ℕ)) (rules : List (Rule ℕ)) (cs : List ℕ) (k i c : ℕ) → levelled ≡ true → AreCosts rules cs → i < length cs → c ≡ get_or cs i c →
     (e : KBestError) → IsUsefulCause product labels (level c rules) k e → IsLevelCause levelled product labels rules k e

@@ -60,7 +60,7 @@ keeps levelled true product laws one p b first second tests weighted =
         both true same greater strict = ap (λ x. nat_eq x 1) (same ∙ greater refl)
         both false same greater strict = elim (nat_eq_cases p 1) [ inl k ↦ absurd (let l = strict refl in omega (arith, l, same, k.0)) | inr k ↦ k.1 ]
 
--- trees are in order where the product is not the greater factor, and where each rule is free
+-- trees are in order where the product is not the greater factor, and where each rule costs nothing
 pub orderly_either :
     (levelled weighted : Bool) (product : ℕ → ℕ → ℕ) → ProductLaws levelled weighted product → (rules : List (Rule ℕ)) → (levelled ≡ false) ⊎ (weighted ≡ false) →
     (weighted ≡ false → (n : ℕ) → n < length rules → (rule_at rules n).cost ≡ 0) → IsOrderly product rules
@@ -88,7 +88,7 @@ rule_of product rules q y t = by t.attained.0.runs t.attained.0.are_runs
     by none a = absurd a
     by (tree n runs rest) a = (n, a.0)
 
--- a fault of the grammar is one of a level of it
+-- an error of the grammar is one of a level of it
 pub either_cause :
     (levelled weighted : Bool) (product : ℕ → ℕ → ℕ) (labels : List (List ℕ)) (rules : List (Rule ℕ)) (k : ℕ) → (levelled ≡ false) ⊎ (weighted ≡ false) →
     (weighted ≡ false → (n : ℕ) → n < length rules → (rule_at rules n).cost ≡ 0) → (e : KBestError) → IsUsefulCause product labels rules k e → IsLevelCause levelled product labels rules k e

@@ -73,7 +73,7 @@ by_cost ws ps now n p s = record {
         IsDistinct-IsPermutation same_place (λ x y. turned x.1 y.1) ps now p
         (IsDistinct-from_apart same_place ps (λ i j d l h. differ (get_or ps i d).1 (get_or ps j d).1 (λ e. omega (arith, l, e, place_at i d (omega (arith, l, h)), place_at j d h))))
 
--- one cost more is numbered
+-- one more cost is numbered
 pub numbered_more : (ws : List ℕ) (i w : ℕ) → w ≡ get_or ws i w → i < length ws → (ps qs : List (ℕ × ℕ)) → AreNumbered ws i ps → qs ≡ ps ++ (w, i) ∷ [] → AreNumbered ws (i + 1) qs
 numbered_more ws i w here inside ps qs n put = subst (AreNumbered ws (i + 1)) (sym put) (record {
   long = length_more ps ∙ ap (λ m. m + 1) n.long;

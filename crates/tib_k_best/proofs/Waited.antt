@@ -1,4 +1,4 @@
--- A rule that is put last among those that wait for a state.
+-- A rule that is appended to those that wait for a state.
 use Rattle.std.specs.Prelude.{◌≡◌, ℕ, ◌<◌, List, [], ◌∷◌, ◌++◌, length, map, Option, None, Some, IfSome, IfNone, refl}
 use Rattle.std.specs.Option.{option_to_list}
 use Rattle.tib_lex.proofs.Lists.{append_nil}

@@ -41,7 +41,7 @@ has_cost product rules xs i h have t same v series none =
     let e : Some c.0 ≡ None = IsLeast-unique there (subst (λ u. IsSeries product rules t u) none series) in
     cc
 
--- one cost more
+-- one more cost
 pub costs_more :
     (product : ℕ → ℕ → ℕ) (rules : List (Rule ℕ)) (xs : List Costed) (i : ℕ) (ws : List ℕ) → (length ws ≡ i) × CostFirst product rules xs ws → (t : Tree ℕ) → t ≡ (get_or xs i no_entry).0 → (w : ℕ) →
     IsSeries product rules t (Some w) → (us : List ℕ) → us ≡ ws ++ w ∷ [] → (length us ≡ i + 1) × CostFirst product rules xs us
@@ -57,7 +57,7 @@ costs_more product rules xs i ws now t same w series us put =
       ],
     )
 
--- one cost more of those that are there
+-- one more cost of those that are there
 pub listed_more :
     (xs : List Costed) (i : ℕ) (ws : List ℕ) → (length ws ≡ i) × CostAsListed xs ws → (w : ℕ) → w ≡ (get_or xs i no_entry).1 → (us : List ℕ) → us ≡ ws ++ w ∷ [] →
     (length us ≡ i + 1) × CostAsListed xs us

@@ -223,7 +223,7 @@ module _ {P : Type 0} (two : List (TransducerRule ℕ)) where
   choice_join p ps (label f) kids rest (tree (Some n) below none) d t u = (t.0, t.1, t.2, t.3, u)
   choice_join p ps (label f) kids rest (tree (Some n) below (tree c b m)) d t u = absurd t.4
 
-  -- a choice of all sides parts into these
+  -- a choice of all sides splits into these
   pub choice_split :
       (p : ℕ) (ps : List ℕ) (s : Symbol ℕ P) (kids rest : Trees (Symbol ℕ P)) (x : Trees (Option ℕ)) → AreTranslations two (p ∷ ps) (tree s kids rest) x →
       (c : Trees (Option ℕ)) × (d : Trees (Option ℕ)) × AreTranslations two (p ∷ []) (tree s kids none) c × AreTranslations two ps rest d × (join c d ≡ x)
@@ -309,7 +309,7 @@ module _ {P : Type 0} (two : List (TransducerRule ℕ)) where
           rule_has two choices p f (count kids) (length two) n below t.0 e
           ((tell_joined kids choices tell (holes_of (transducer_rule two n).right) (within_sides p f kids n t.0 e)).back below t.3)
 
-    -- one side more
+    -- one more side
     tell_more :
         (s : Symbol ℕ P) (kids rest : Trees (Symbol ℕ P)) → Tell rest (λ i p. choices_at two rest i p) → ((p : ℕ) → Distinct (choices_at two (tree s kids rest) 0 p)) →
         ((p : ℕ) (c : Trees (Option ℕ)) → Has (choices_at two (tree s kids rest) 0 p) c → AreTranslations two (p ∷ []) (tree s kids none) c) →

@@ -80,7 +80,7 @@ module _
   are_edges : IsExact product one two order rules
   are_edges = exact product one two order rules composed.composite
 
-  -- a rule of the composite transducer over runs that are parted
+  -- a rule of the composite transducer over runs that are split
   parted :
       (j k f : ℕ) (kids args : Trees ℕ) (v : Tree ℕ) (c : ℕ) → j < length rules → (transducer_rule rules j).state ≡ k → AreBound (holes_of (transducer_rule rules j).left) args → fill (only (transducer_rule rules j).left) args ≡ tree f kids none →
       Filled product (λ x. IsParted product one two order (target args x)) (only (transducer_rule rules j).right) (only v) c →

@@ -33,7 +33,7 @@ module _ (product : ℕ → ℕ → ℕ) (one two : List (TransducerRule ℕ)) w
       ∙ ap (λ z. record { state = f.state; left = f.left; right = record { label = f.right.label; kids = z }; cost = e.cost }) kids
       ∙ ap (λ z. record { state = f.state; left = f.left; right = f.right; cost = z }) (a.costs ∙ sym b.costs)
 
-  -- what a hunt asks of its operation
+  -- what a hunt requires of its operation
   pub composition_laws : Laws (composition product one two)
   composition_laws = op_laws pair_cmp (0, 0) (IsComposeEdge product one two) ends_of (key_parts (λ k. 2)) edge_parts pair_total same_edge
 

@@ -199,7 +199,7 @@ module _ {levelled weighted : Bool} {product : ℕ → ℕ → ℕ} (laws : Prod
       pub trees : join front back ≡ us
       pub costs : product first second ≡ c
 
-    -- what fills all parts into what fills the first and the others
+    -- what fills all splits into what fills the first and the others
     pub filled_split : (s t : Trees (Symbol ℕ A)) (us : Trees ℕ) (c : ℕ) → Filled product R (join s t) us c → FilledSplit s t us c
     filled_split none t us c h = record {
       front = none;

@@ -48,7 +48,7 @@ module _
     abbrev Gives : ℕ → ℕ × O → E → Type 0
     Gives n = GivesBelow start Edge order n
 
-    -- those of one position more
+    -- those of one more position
     module _ (n : ℕ) (front last : List E) (before : Lists (Gives n) front) (l : Lists (Edge (get_or order n start)) last) where
       abbrev here : List (ℕ × O)
       here = map (λ o. (n, o)) l.origins
@@ -104,7 +104,7 @@ module _
         let b = order_begins rounds first old before in (b.0 ++ new, made ∙ ap (λ (l : List K). l ++ new) b.1)
 
     module _ (one : (k : K) (o : O) (e f : E) → Edge k o e → Edge k o f → e ≡ f) where
-      -- what the hunt asks of the operation
+      -- what the hunt requires of the operation
       pub op_laws : Laws op
       op_laws = record {
         total_order = total;

@@ -1,4 +1,4 @@
--- One edge more, and what whole lists of edges say.
+-- One more edge, and what whole lists of edges say.
 use Rattle.std.specs.Prelude.{◌≡◌, ℕ, ◌+◌, ◌<◌, ◌≤◌, ◌↔◌, List, [], ◌∷◌, ◌++◌, length, map}
 use Rattle.std.proofs.Common.{arith, ap, sym, ◌∙◌, subst, get_or, inl, inr}
 use Rattle.tib_lex.specs.Lists.{Has, Along, total}

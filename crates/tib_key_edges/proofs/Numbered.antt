@@ -27,7 +27,7 @@ variables_named g [] = refl
 variables_named g (x ∷ xs) = ap (λ z. x.variable ∷ z) (variables_named g xs)
 
 module _ (product : ℕ → ℕ → ℕ) (states : List ℕ) (numbered rules : List (TransducerRule ℕ)) (are : AreRenumbered states numbered rules) where
-  -- a rule under its number and by name
+  -- a rule by number and by name
   record IsSameRule (n : ℕ) : Type 0 where
     state_is : (transducer_rule rules n).state ≡ get_or states (transducer_rule numbered n).state 0
     left_is : (transducer_rule numbered n).left ≡ (transducer_rule rules n).left

@@ -28,7 +28,7 @@ module _ {A : Type 0} (test : A → Bool) where
       by_case false true ys = refl
       by_case false false ys = refl
 
-  -- a list that had those of the first values, and has one place more where the next value is one
+  -- a list that had those of the first values, and has one more place where the next value is one
   pub places-one :
       (xs : List A) (i : ℕ) (d : A) → i < length xs → (b : Bool) (x : A) → x ≡ get_or xs i d → test x ≡ b → (before after : List ℕ) →
       before ≡ places_from 0 test (take i xs) → after ≡ (if b then before ++ i ∷ [] else before) → after ≡ places_from 0 test (take (i + 1) xs)

@@ -121,7 +121,7 @@ begins product x heap held n start tuple x2 m made =
     (subst (λ (i : ℕ). Begins product x n (ranks_from x n start) heap (with_candidate x (new product x heap held n start tuple)) i) (sym made.0)
     (begins_here product x heap held n start tuple made.1))
 
--- ranks that were put last
+-- ranks that were appended
 
 take_whole : (js : List ℕ) → take (length js) js ≡ js
 take_whole [] = refl
@@ -132,7 +132,7 @@ pub from_end : (xs js : List ℕ) → take (length js) (drop (length xs) (xs ++ 
 from_end [] js = take_whole js
 from_end (x ∷ xs) js = from_end xs js
 
--- what is known once ranks were put last
+-- what is known once ranks were appended
 pub record IsPut (product : ℕ → ℕ → ℕ) (x : ListsOf) (n : ℕ) (js heap : List ℕ) (x1 : ListsOf) (start : ℕ) : Type 0 where
   pub held : IsHeld product x1 heap
   pub tuple : IsTuple x1 n (ranks_from x1 n start)

@@ -37,7 +37,7 @@ map_end : {A B : Type 0} (f : A → B) (xs : List A) (y : A) → map f (xs ++ y 
 map_end f [] y = refl
 map_end {B = B} f (x ∷ xs) y = ap (λ (ys : List B). f x ∷ ys) (map_end f xs y)
 
--- one list without a rule more
+-- one more list without a rule
 pub none_more : (vs now : List (Vec ℕ)) (w : Vec ℕ) → now ≡ vs ++ w ∷ [] → w.items ≡ [] → ((q : ℕ) → get_or (map rules_of vs) q [] ≡ []) → (q : ℕ) → get_or (map rules_of now) q [] ≡ []
 none_more vs now w e f h q = ap (λ us. get_or (map rules_of us) q []) e ∙ ap (λ rs. get_or rs q []) (map_end rules_of vs w) ∙ by (map rules_of vs) q h
   where
@@ -47,7 +47,7 @@ none_more vs now w e f h q = ap (λ us. get_or (map rules_of us) q []) e ∙ ap 
     by (r ∷ rs) zero g = g 0
     by (r ∷ rs) (suc p) g = by rs p (λ i. g (suc i))
 
--- a rule that is put last among those of a state
+-- a rule that is appended to those of a state
 pub rule_put : (vs : List (Vec ℕ)) (q : ℕ) → q < length vs → (v w d : Vec ℕ) (n : ℕ) → v ≡ get_or vs q d → w.items ≡ v.items ++ n ∷ [] → map rules_of (set vs q w) ≡ set (map rules_of vs) q (get_or (map rules_of vs) q [] ++ n ∷ [])
 rule_put vs q h v w d n r p =
     let old : rules_of v ≡ get_or (map rules_of vs) q [] = ap rules_of r ∙ sym (get_or-map rules_of vs q d [] h) in

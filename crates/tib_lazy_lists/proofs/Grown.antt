@@ -33,7 +33,7 @@ told_snoc : (ts : List (Tree ℕ)) (es : List Entry) (e : Entry) → map (told t
 told_snoc ts [] e = refl
 told_snoc ts (a ∷ es) e = ap (λ (zs : List Costed). told ts a ∷ zs) (told_snoc ts es e)
 
--- what was put last is at the end
+-- what was appended is at the end
 pub at_end : {A : Type 0} (xs : List A) (y d : A) → get_or (xs ++ y ∷ []) (length xs) d ≡ y
 at_end [] y d = refl
 at_end (x ∷ xs) y d = at_end xs y d

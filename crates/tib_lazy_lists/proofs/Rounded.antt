@@ -525,7 +525,7 @@ last_nodes product x a i l d u last f b e g h =
     ap (λ (js : List ℕ). size (tree_by x b.rule js)) (ranks_read x c b e g1 h1) ∙ ap (λ (v : Candidate). size (tree_by x v.rule (ranks_of x c))) g1 ∙ sym (i.lists.made (state_at a d.state).last t.last).is.size
     ∙ l d.state u.state u.left ∙ ap (λ (n : ℕ). size (get_or (entries_of x d.state) n no_entry).0) (sym m)
 
--- what follows from two facts on a good end
+-- what follows from two facts if there is no error
 pub on_both : {T E : Type 0} (r : Result T E) (P Q R : Type 0) → OnOk r P → OnOk r Q → (P → Q → R) → OnOk r R
 on_both (Ok v) P Q R p q f = f p q
 on_both (Err e) P Q R p q f = tt

@@ -26,7 +26,7 @@ zeros_are (q ∷ qs) (suc n) e = ap (λ (js : List ℕ). 0 ∷ js) (zeros_are qs
 pub ranks_put : (x now : ListsOf) → x ≡ now → (rs js : List ℕ) → rs ≡ x.ranks ++ js → record x { ranks = rs } ≡ with_ranks now js
 ranks_put x now e rs js f = ap (λ (ks : List ℕ). record x { ranks = ks }) f ∙ ap (λ (y : ListsOf). with_ranks y js) e
 
--- one rank higher
+-- one rank raised by one
 
 pub length-raise : (i : ℕ) (js : List ℕ) → length (raise i js) ≡ length js
 length-raise zero [] = refl
@@ -134,7 +134,7 @@ below_snoc m ns now n e b h = subst (NumbersBelow m) (sym e) (λ k i. elim (case
     cases (x ∷ xs) k (inl y) = inl (inl y)
     cases (x ∷ xs) k (inr y) = elim (cases xs k y) [ inl z ↦ inl (inr z) | inr z ↦ inr z ]
 
--- an entry that is put last on a list
+-- an entry that is appended to a list
 
 pub place_put :
     (x now : ListsOf) → x ≡ now → (vs : List (Vec Entry)) → map items_of vs ≡ x.lists → (q : ℕ) → q < length vs → (v w d : Vec Entry) (e : Entry) → v ≡ get_or vs q d → w.items ≡ v.items ++ e ∷ [] →

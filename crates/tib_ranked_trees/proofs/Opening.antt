@@ -130,7 +130,7 @@ module _ {levelled weighted : Bool} {product : ℕ → ℕ → ℕ} (laws : Prod
       in
       record { cost = l.value; is_tree = l.least; low = l.low }
 
-  -- where every rule is free, so is every tree
+  -- if every rule costs nothing, so does every tree
   pub free_runs : ((n : ℕ) → n < length rules → (rule_at rules n).cost ≡ 0) → (qs : List ℕ) (runs : Trees ℕ) → AreRuns rules qs runs → cost product rules runs ≡ 0
   free_runs free [] none a = refl
   free_runs free [] (tree n runs rest) a = absurd a
@@ -149,7 +149,7 @@ module _ {levelled weighted : Bool} {product : ℕ → ℕ → ℕ} (laws : Prod
           named (label f) kids h = Rattle.tib_lex.proofs.Lists.append_nil (holes kids)
           named (hole p) kids h = absurd h
 
-  -- so the product is strict, or every tree is free
+  -- so the product is strict, or every tree costs nothing
   abbrev pub AreOrderly : Type 0
   AreOrderly = ((a b c : ℕ) → b < c → product a b < product a c) ⊎ ((q : ℕ) (a : Tree ℕ × ℕ) → IsTreeAt product rules q a → a.1 ≡ 0)
 

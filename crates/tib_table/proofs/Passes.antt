@@ -72,7 +72,7 @@ module _ {D K : Type 0} (d : D) where
   seated_push j (r ∷ ss) t a out is =
       (a.0, a.1, seated_push (j + 1) ss t a.2 out (log_at (j + suc (length ss)) ((j + 1) + length ss) t.seen (omega arith) is))
 
-  -- one lock more
+  -- one more lock
   pub opened_push : (n : ℕ) (zs zs' : List TableId) (ss ss' : List (Seen (Entry (D × ℕ) K))) (z : TableId) (s : Seen (Entry (D × ℕ) K)) → zs' ≡ zs ++ z ∷ [] → ss' ≡ ss ++ s ∷ []
       → s ≡ record { lock = z; seen = shelf_log (d, n) []; inside = false } → AreOpened d n zs ss → AreOpened d (n + 1) zs' ss'
   opened_push n zs zs' ss ss' z s a b is (long, locks, known, seated) =

@@ -22,7 +22,7 @@ pub map_append : {A B : Type 0} (f : A → B) (xs ys : List A) → map f (xs ++ 
 map_append f [] ys = refl
 map_append f (x ∷ xs) ys = ap (λ (l : List _). f x ∷ l) (map_append f xs ys)
 
--- one shelf more brings its keys
+-- one more shelf brings its keys
 pub keys_more : {K V : Type 0} (keys_in : V → List K) (shelves : List V) (i : ℕ) (v : V) → i < length shelves → v ≡ get_or shelves i v
     → length (all_on (map keys_in (take (i + 1) shelves))) ≡ length (all_on (map keys_in (take i shelves))) + length (keys_in v)
 keys_more keys_in shelves i v low is =
