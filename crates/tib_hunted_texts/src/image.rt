@@ -2,7 +2,7 @@
 ghost use Rattle.std.specs.Prelude.{◌≤◌, length, IfErr, IfOk};
 ghost use Rattle.tib_expand.specs.Reached.{IfTooMany, IsBeyond};
 ghost use Rattle.tib_image.specs.Answered.{IsImage, AreOverOrder, HasParts};
-ghost use Rattle.tib_image.specs.Image.{forward_image_of};
+ghost use Rattle.tib_image.specs.Image.{image_of};
 ghost use Rattle.tib_operations.specs.Image.{image_makes, HasImageText, IsImageText};
 ghost use Rattle.tib_operations.specs.Made.{IsLimit, IsMadeFault};
 ghost use Rattle.tib_operations.specs.Moves.{ArePlainMoves};
@@ -38,7 +38,7 @@ fn canonical_of_outputs<S: Semiring + Drop>(
     requires within { IfOk hunted (λ f. f.parts ≤ limit) }
     requires few { IfOk hunted (λ f. length f.order.items ≤ limit) }
     requires few_rules { IfOk hunted (λ f. length f.rules.items ≤ limit) }
-    requires more { IfErr hunted (IfTooMany limit (IsBeyond (forward_image_of transducer.now.rules tree.now)
+    requires more { IfErr hunted (IfTooMany limit (IsBeyond (image_of transducer.now.rules tree.now)
         limit)) }
     ensures text { IfOk result (λ h. HasImageText S.SCALE S.product limit labels.now tree.now
         transducer.now h.text.bytes) }

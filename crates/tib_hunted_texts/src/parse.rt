@@ -4,7 +4,7 @@ ghost use Rattle.std.specs.Prelude.{◌≤◌, length, IfErr, IfOk};
 ghost use Rattle.tib_strings.specs.Range.{AreLinear, AreNondeleting};
 ghost use Rattle.tib_image.specs.ParseAnswered.{IsParsed, AreOverOrder, HasParts, IsParseFault};
 ghost use Rattle.tib_operations.specs.Made.{IsLimit};
-ghost use Rattle.tib_operations.specs.Parse.{HasParseText, parse_makes, parse_demands, IsParseTextFault};
+ghost use Rattle.tib_operations.specs.Parse.{HasParseText, IsParseText, parse_makes, parse_demands, IsParseTextFault};
 ghost use Rattle.tib_operations.specs.Words.{ArePlainWords};
 
 use std::alloc::{AllocError, Global};
@@ -44,6 +44,8 @@ fn canonical_of_parse<S: Semiring + Drop>(
     requires fault { IfErr hunted (IsParseFault transducer.now.rules string.now limit) }
     ensures text { IfOk result (λ h.
         HasParseText S.SCALE S.product limit labels.now transducer.now string.now h.text.bytes) }
+    ensures grammar { IfOk result (λ h. IsParseText S.SCALE S.product limit labels.now
+        transducer.now string.now h.text.bytes h.grammar) }
     ensures within { IfOk result (λ _. (parse_makes limit transducer.now string.now).within) }
     ensures met { IfOk result (λ _. (parse_demands transducer.now).met) }
     ensures err { IfErr result (IsParseTextFault limit transducer.now string.now) }
@@ -84,6 +86,8 @@ pub fn parse_of<S: Semiring + Drop, G: Gate>(
     requires limit { IsLimit limit }
     ensures text { IfOk result (λ h.
         HasParseText S.SCALE S.product limit labels.now transducer.now string.now h.text.bytes) }
+    ensures grammar { IfOk result (λ h. IsParseText S.SCALE S.product limit labels.now
+        transducer.now string.now h.text.bytes h.grammar) }
     ensures within { IfOk result (λ _. (parse_makes limit transducer.now string.now).within) }
     ensures met { IfOk result (λ _. (parse_demands transducer.now).met) }
     ensures err { IfErr result (IsParseTextFault limit transducer.now string.now) }
@@ -110,6 +114,8 @@ pub fn parse_of_together<S: Semiring + Sync + Drop, R: Threads + Wait + Sync, G:
     requires limit { IsLimit limit }
     ensures text { IfOk result (λ h.
         HasParseText S.SCALE S.product limit labels.now transducer.now string.now h.text.bytes) }
+    ensures grammar { IfOk result (λ h. IsParseText S.SCALE S.product limit labels.now
+        transducer.now string.now h.text.bytes h.grammar) }
     ensures within { IfOk result (λ _. (parse_makes limit transducer.now string.now).within) }
     ensures met { IfOk result (λ _. (parse_demands transducer.now).met) }
     ensures err { IfErr result (IsParseTextFault limit transducer.now string.now) }

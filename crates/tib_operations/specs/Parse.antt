@@ -3,6 +3,7 @@
 use Rattle.tib_cost.specs.declared.Scale.{Scale}
 use Rattle.std.specs.Prelude.{◌≡◌, ◌↔◌, ℕ, List, Option}
 use Rattle.tib_tree.specs.Trees.{Tree}
+use Rattle.tib_grammar.specs.GrammarOf.{GrammarOf}
 use Rattle.tib_grammar.specs.Series.{IsSeries}
 use Rattle.tib_grammar.specs.declared.Rule.{Rule}
 use Rattle.tib_strings.specs.Faults.{IsFirstFault}
@@ -43,6 +44,10 @@ abbrev pub HasParseText : Scale → (ℕ → ℕ → ℕ) → ℕ → List (List
 HasParseText scale product limit labels t string text =
     HasGrammarText scale labels (IsCanonicalFrom product scale labels limit (IsTheString string) (parsing t))
     (HasParseSeries product t.rules string) text
+
+-- the text is that of this canonical grammar
+abbrev pub IsParseText : Scale → (ℕ → ℕ → ℕ) → ℕ → List (List ℕ) → StringTransducerOf → List ℕ → List ℕ → GrammarOf → Type 0
+IsParseText scale product limit labels t string text h = (d : HasParseText scale product limit labels t string text) × (d.h ≡ h)
 
 -- the reached set of keys; no normal form is made
 abbrev pub parse_makes : ℕ → StringTransducerOf → List ℕ → Made

@@ -39,8 +39,8 @@ to_grammar-requires-clause-labelled g c =
     (rules_printed g.S.Semiring.SCALE c.args.labels.now c.args.transducer.now c.args.string.now c.in-Ok.found.order.items c.in-Ok.found.rules.items c.requires.transducer (IfOk-at_ok _ c.in-Ok.is c.requires.reached)
     (IfOk-at_ok _ c.in-Ok.is c.requires.range)).printable
 
-pub returns-in-Ok-to_grammar-clause-text : goal.returns-in-Ok-to_grammar-clause-text
-returns-in-Ok-to_grammar-clause-text g c =
+pub returns-in-Ok-to_grammar-clause-grammar : goal.returns-in-Ok-to_grammar-clause-grammar
+returns-in-Ok-to_grammar-clause-grammar g c =
     let over =
     rules_printed g.S.Semiring.SCALE c.args.labels.now c.args.transducer.now c.args.string.now c.in-Ok.found.order.items c.in-Ok.found.rules.items c.requires.transducer (IfOk-at_ok _ c.in-Ok.is c.requires.reached)
     (IfOk-at_ok _ c.in-Ok.is c.requires.range) in
@@ -48,17 +48,23 @@ returns-in-Ok-to_grammar-clause-text g c =
     canonical_of g.S.Semiring.product g.S.Semiring.SCALE c.args.limit c.args.labels.now c.args.transducer.now c.args.string.now c.in-Ok.found.order.items c.in-Ok.found.rules.items c.in-Ok-to_grammar.canonical.grammar c.requires.transducer
     (IfOk-at_ok _ c.in-Ok.is c.requires.reached) (IfOk-at_ok _ c.in-Ok.is c.requires.range) (omega (arith, (IfOk-at_ok _ c.in-Ok.is c.requires.parts), (IfOk-at_ok _ c.in-Ok.is c.requires.within))) c.in-Ok-to_grammar.ensures.canonical
     in
-    record {
-      h = c.in-Ok-to_grammar.canonical.grammar;
-      canonical = record { from = c.args.string.now; is_made = refl; canonical = canonical };
-      series =
-          parse_has_series g.met.S.Semiring.laws g.S.Semiring.SCALE c.args.limit c.args.labels.now c.args.transducer.now c.args.string.now c.in-Ok-to_grammar.canonical.grammar c.is_sound.ensures.shaped
-          (IfOk-at_ok _ c.in-Ok.is c.requires.linear) (IfOk-at_ok _ c.in-Ok.is c.requires.nondeleting) canonical;
-      are = c.in-Ok-to_grammar.ensures.text;
-      read = subst (λ (text : List ℕ). GrammarText g.S.Semiring.SCALE c.args.labels.now text c.in-Ok-to_grammar.canonical.grammar) (sym c.in-Ok-to_grammar.ensures.text)
-          (c.over_keys_texts_are_read.ensures g.S.Semiring.SCALE c.args.labels.now c.in-Ok.found.order.items c.in-Ok.found.rules.items (At 0) c.in-Ok-to_grammar.canonical.grammar
-          (omega (arith, (IfOk-at_ok _ c.in-Ok.is c.requires.few), c.requires.limit)) over.leaves over.printable c.in-Ok-to_grammar.ensures.canonical);
-    }
+    (
+      record {
+        h = c.in-Ok-to_grammar.canonical.grammar;
+        canonical = record { from = c.args.string.now; is_made = refl; canonical = canonical };
+        series =
+            parse_has_series g.met.S.Semiring.laws g.S.Semiring.SCALE c.args.limit c.args.labels.now c.args.transducer.now c.args.string.now c.in-Ok-to_grammar.canonical.grammar c.is_sound.ensures.shaped
+            (IfOk-at_ok _ c.in-Ok.is c.requires.linear) (IfOk-at_ok _ c.in-Ok.is c.requires.nondeleting) canonical;
+        are = c.in-Ok-to_grammar.ensures.text;
+        read = subst (λ (text : List ℕ). GrammarText g.S.Semiring.SCALE c.args.labels.now text c.in-Ok-to_grammar.canonical.grammar) (sym c.in-Ok-to_grammar.ensures.text)
+            (c.over_keys_texts_are_read.ensures g.S.Semiring.SCALE c.args.labels.now c.in-Ok.found.order.items c.in-Ok.found.rules.items (At 0) c.in-Ok-to_grammar.canonical.grammar
+            (omega (arith, (IfOk-at_ok _ c.in-Ok.is c.requires.few), c.requires.limit)) over.leaves over.printable c.in-Ok-to_grammar.ensures.canonical);
+      },
+      refl,
+    )
+
+pub returns-in-Ok-to_grammar-clause-text : goal.returns-in-Ok-to_grammar-clause-text
+returns-in-Ok-to_grammar-clause-text g c = (returns-in-Ok-to_grammar-clause-grammar g c).0
 
 pub returns-in-Ok-to_grammar-clause-within : goal.returns-in-Ok-to_grammar-clause-within
 returns-in-Ok-to_grammar-clause-within g c =
