@@ -11,7 +11,7 @@ use tib_cost::{MOST, MinPlus};
 use tib_expand::{Found, Open};
 use tib_grammar::Item;
 use tib_key_edges::StatePair;
-use tib_reached::{compose, compose_together};
+use tib_reached::{Hunters, compose, compose_together};
 use tib_transducer::{Pair, Transducer, TransducerRule, Variable};
 use tib_tree::Label;
 
@@ -359,7 +359,12 @@ fn composed<R: Threads + Wait + Sync>(
     if workers == 0 {
         return compose(alloc, first, second, limit, &Open);
     }
-    compose_together(rt, alloc, first, second, workers, limit, &Open)
+    let hunters = Hunters {
+        rt,
+        workers,
+        gate: &Open,
+    };
+    compose_together(&hunters, alloc, first, second, limit)
 }
 
 // Whether two transducers reach the composition wanted, or answer the error of a run; false where

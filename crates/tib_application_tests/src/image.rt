@@ -8,7 +8,7 @@ use tib_cost::MinPlus;
 use tib_expand::{Found, HuntError, Open, TableKey};
 use tib_grammar::Rule;
 use tib_image::Key;
-use tib_reached::{image, image_together};
+use tib_reached::{Hunters, image, image_together};
 use tib_transducer::Transducer;
 use tib_tree::{Label, Tree};
 
@@ -160,7 +160,12 @@ fn is_answered<R: Threads + Wait + Sync>(
     if *workers == 0 {
         return is_told(alloc, image(alloc, transducer, tree, *limit, &Open), want);
     }
-    let answer = image_together(rt, alloc, transducer, tree, *workers, *limit, &Open);
+    let hunters = Hunters {
+        rt,
+        workers: *workers,
+        gate: &Open,
+    };
+    let answer = image_together(&hunters, alloc, transducer, tree, *limit);
     is_told(alloc, answer, want)
 }
 

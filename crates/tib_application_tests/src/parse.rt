@@ -11,7 +11,7 @@ use tib_cost::{Cost, MinPlus};
 use tib_expand::{Found, Open};
 use tib_grammar::Rule;
 use tib_image::parse::Key;
-use tib_reached::{parse, parse_together};
+use tib_reached::{Hunters, parse, parse_together};
 use tib_strings::{StringRule, StringTransducer, Word, Words};
 use tib_transducer::Pair;
 use tib_tree::Label;
@@ -172,7 +172,12 @@ fn is_answered<R: Threads + Wait + Sync>(
     if *workers == 0 {
         return is_told(alloc, parse(alloc, transducer, string, *limit, &Open), want);
     }
-    let answer = parse_together(rt, alloc, transducer, string, *workers, *limit, &Open);
+    let hunters = Hunters {
+        rt,
+        workers: *workers,
+        gate: &Open,
+    };
+    let answer = parse_together(&hunters, alloc, transducer, string, *limit);
     is_told(alloc, answer, want)
 }
 

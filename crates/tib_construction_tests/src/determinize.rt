@@ -10,7 +10,7 @@ use tib_determinize::{Residuals, Vector};
 use tib_expand::{Found, HuntError, Open};
 use tib_grammar::Rule;
 use tib_normal::Normal;
-use tib_reached::{determinize, determinize_together};
+use tib_reached::{Hunters, determinize, determinize_together};
 
 // q -> f(p) # 1, q -> f(r) # 3, p -> a # 2 and r -> a # 1.
 static AMBIGUOUS: [Row; 4] = [
@@ -223,7 +223,12 @@ fn reaches_together<R: Threads + Wait + Sync>(
     requires some { 1 ≤ workers }
     requires workers { workers ≤ 16 }
 {
-    match determinize_together(rt, alloc, normal, workers, 100, &Open) {
+    let hunters = Hunters {
+        rt,
+        workers,
+        gate: &Open,
+    };
+    match determinize_together(&hunters, alloc, normal, 100) {
         Ok(found) => has_counts(&found),
         Err(_) => false,
     }

@@ -11,7 +11,7 @@ use tib_grammar::Rule;
 use tib_intersect::{PairRule, Pairs};
 use tib_key_edges::StatePair;
 use tib_normal::Normal;
-use tib_reached::{intersect, intersect_together};
+use tib_reached::{Hunters, intersect, intersect_together};
 use tib_tree::Label;
 
 static LEFT: [Row; 4] = [
@@ -259,7 +259,12 @@ fn reached<R: Threads + Wait + Sync>(
     if workers == 0 {
         return intersect(alloc, left, right, limit, &Open);
     }
-    intersect_together(rt, alloc, left, right, workers, limit, &Open)
+    let hunters = Hunters {
+        rt,
+        workers,
+        gate: &Open,
+    };
+    intersect_together(&hunters, alloc, left, right, limit)
 }
 
 static ALL: [Row; 4] = [

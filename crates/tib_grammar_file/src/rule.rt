@@ -4,7 +4,7 @@ ghost use Rattle.std.specs.Option.{option_map};
 ghost use Rattle.tib_lex.specs.Grammar.{Word};
 ghost use Rattle.tib_lex.specs.Line.{word_at, words_at, text_of, Lies};
 ghost use Rattle.tib_grammar_file.specs.Rule.{last_two, weight_in, front_of, head_of, has_dot as spec_has_dot, parts_of};
-ghost use Rattle.tib_grammar_file.specs.StateAndWeight.{text_at, found_parts, FoundLies, WeightLies, IsCost};
+ghost use Rattle.tib_grammar_file.specs.Found.{text_at, found_parts, FoundLies, WeightLies, IsCost};
 ghost use Rattle.tib_grammar_file.specs.Weight.{cost_of};
 
 use crate::weight::{one, read_weight};
@@ -15,7 +15,7 @@ use tib_tree::Reader;
 
 // The tokens of a rule's left state and of its weight.
 #[derive(Clone, Copy, Debug)]
-pub(crate) struct StateAndWeight {
+pub(crate) struct Found {
     pub left: Token,
     pub weight: Option<Token>,
 }
@@ -105,7 +105,7 @@ pub(crate) fn read_parts(
     tokens: &[Token],
     reader: &mut Reader,
     text: &mut Vec<u8>,
-) -> Result<Option<StateAndWeight>, AllocError>
+) -> Result<Option<Found>, AllocError>
     requires few { length tokens.now < 2 ^ 32 - 1 }
     requires lie { All (Lies (length line.now)) tokens.now }
     ensures parts { IfOk result (λ found. parts_of (words_at line.now tokens.now)
@@ -125,7 +125,7 @@ pub(crate) fn read_parts(
     if !reader.read(tree_tokens(rest, weight))? {
         return Ok(None);
     }
-    Ok(Some(StateAndWeight { left, weight }))
+    Ok(Some(Found { left, weight }))
 }
 
 /// The cost of a rule with this weight or without one. A fault is that of the weight; `OutOfMemory`

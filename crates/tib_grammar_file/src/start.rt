@@ -2,7 +2,7 @@
 ghost use Rattle.std.specs.Prelude.{◌≡◌, ◌≤◌, ◌<◌, ◌-◌, ◌^◌, ℕ, List, [], length, All, IfOk};
 ghost use Rattle.tib_lex.specs.Line.{words_at, Lies};
 ghost use Rattle.tib_lex.specs.Lines.{HasNoFeed};
-ghost use Rattle.tib_grammar_file.specs.StateAndWeight.{text_at, WeightLies};
+ghost use Rattle.tib_grammar_file.specs.Found.{text_at, WeightLies};
 ghost use Rattle.tib_grammar_file.specs.Reading.{start_of, start_line, grammar_of};
 ghost use Rattle.tib_grammar_file.specs.RawGrammar.{IsStartLine, IsBegun, ReadsRaw};
 ghost use Rattle.tib_lex.specs.Limits.{most_bytes};

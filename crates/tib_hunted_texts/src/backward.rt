@@ -24,7 +24,7 @@ use tib_grammar::{Grammar, Rule};
 use tib_grammar_file::printable_is_labelled;
 use tib_normal::Normal;
 use tib_operations::Status;
-use tib_reached::{apply_backward, apply_backward_together};
+use tib_reached::{Hunters, apply_backward, apply_backward_together};
 use tib_texts::{product_has_laws, trimmed_form};
 use tib_transducer::Transducer;
 use tib_tree::Labels;
@@ -120,19 +120,17 @@ pub fn inverse_image_of_together<
     R: Threads + Wait + Sync,
     G: Gate + Sync,
 >(
-    rt: &R,
+    hunters: &Hunters<R, G>,
     alloc: Global,
     transducer: &Transducer<S>,
     grammar: &Grammar<S>,
     labels: &Labels,
-    workers: u32,
     limit: u64,
-    gate: &G,
 ) -> Result<Printed<S>, Status>
     requires transducer { ArePlainMoves S.SCALE labels.now transducer.now.rules }
     requires grammar { ArePrintable S.SCALE labels.now grammar.now.rules }
     requires class { AllMeet linear_nondeleting transducer.now.rules }
-    requires workers { (1 ≤ workers) × (workers ≤ 16) }
+    requires workers { (1 ≤ hunters.now.workers) × (hunters.now.workers ≤ 16) }
     requires limit { IsLimit limit }
     ensures text { IfOk result (λ h. HasBackwardText S.SCALE S.product limit labels.now
         transducer.now grammar.now h.text.bytes) }
@@ -149,8 +147,6 @@ pub fn inverse_image_of_together<
     };
     form.grammar();
     product_has_laws::<S>();
-    let hunted = apply_backward_together::<S, R, G>(
-        rt, alloc, transducer, &form, workers, limit, gate,
-    );
+    let hunted = apply_backward_together::<S, R, G>(hunters, alloc, transducer, &form, limit);
     canonical_of_inverse_image::<S>(alloc, transducer, &form, labels, limit, hunted)
 }

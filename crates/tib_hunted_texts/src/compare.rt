@@ -25,7 +25,7 @@ use tib_grammar_file::printable_is_labelled;
 use tib_io::{Failed, GrowingSink};
 use tib_normal::Normal;
 use tib_operations::Status;
-use tib_reached::{compare_alone, compare_supports};
+use tib_reached::{Hunters, compare_alone, compare_supports};
 use tib_texts::{trimmed_form, write_piece};
 use tib_tree::{Labels, Tree, print_tree};
 
@@ -186,18 +186,16 @@ pub fn comparison_of<G: Gate>(
 /// whatever the order of their steps. It may wait forever, as the hunt by several workers. Errors
 /// are those of `comparison_of`.
 pub fn comparison_of_together<R: Threads + Wait + Sync, G: Gate + Sync>(
-    rt: &R,
+    hunters: &Hunters<R, G>,
     alloc: Global,
     left: &Grammar<Boolean>,
     right: &Grammar<Boolean>,
     labels: &Labels,
-    workers: u32,
     limit: u64,
-    gate: &G,
 ) -> Result<GrowingSink, Status>
     requires left { ArePrintable Unweighted labels.now left.now.rules }
     requires right { ArePrintable Unweighted labels.now right.now.rules }
-    requires workers { (1 ≤ workers) × (workers ≤ 16) }
+    requires workers { (1 ≤ hunters.now.workers) × (hunters.now.workers ≤ 16) }
     requires limit { IsLimit limit }
     ensures text { IfOk result (λ text. HasCompareText labels.now left.now right.now text.bytes) }
     ensures within { IfOk result (λ _. (compare_makes limit left.now right.now).within) }
@@ -209,9 +207,7 @@ pub fn comparison_of_together<R: Threads + Wait + Sync, G: Gate + Sync>(
     };
     trimmed_forms_have_the_same_rules();
     printable_is_labelled();
-    let compared = compare_supports::<R, G>(
-        rt, alloc, &forms.one, &forms.two, labels, workers, limit, gate,
-    );
+    let compared = compare_supports::<R, G>(hunters, alloc, &forms.one, &forms.two, labels, limit);
     match text_of(alloc, &forms, labels, limit, compared) {
         Ok(text) => Ok(text),
         Err(status) => Err(status),

@@ -18,7 +18,7 @@ use tib_cost::Semiring;
 use tib_expand::{Found, Gate};
 use tib_key_edges::StatePair;
 use tib_operations::Status;
-use tib_reached::{compose, compose_together};
+use tib_reached::{Hunters, compose, compose_together};
 use tib_transducer::{Transducer, TransducerRule};
 use tib_tree::Labels;
 
@@ -96,19 +96,17 @@ pub fn composition_of<S: Semiring + Drop, G: Gate>(
 /// whatever the order of their steps. It may wait forever, as the hunt by several workers. Errors
 /// are those of `composition_of`.
 pub fn composition_of_together<S: Semiring + Sync + Drop, R: Threads + Wait + Sync, G: Gate + Sync>(
-    rt: &R,
+    hunters: &Hunters<R, G>,
     alloc: Global,
     first: &Transducer<S>,
     second: &Transducer<S>,
     labels: &Labels,
-    workers: u32,
     limit: u64,
-    gate: &G,
 ) -> Result<PrintedTransducer<S>, Status>
     requires first { AreMovesOver S.SCALE labels.now (length first.now.names) first.now.rules }
     requires second { AreMovesOver S.SCALE labels.now (length second.now.names) second.now.rules }
     requires class { AllMeet plain second.now.rules }
-    requires workers { (1 ≤ workers) × (workers ≤ 16) }
+    requires workers { (1 ≤ hunters.now.workers) × (hunters.now.workers ≤ 16) }
     requires limit { IsLimit limit }
     ensures text { IfOk result (λ h. HasComposeText S.SCALE S.product limit labels.now first.now
         second.now h.text.bytes) }
@@ -119,6 +117,6 @@ pub fn composition_of_together<S: Semiring + Sync + Drop, R: Threads + Wait + Sy
     ensures err { IfErr result (IsMadeFault (compose_makes S.product limit first.now
         second.now).more limit) }
 {
-    let hunted = compose_together::<S, R, G>(rt, alloc, first, second, workers, limit, gate);
+    let hunted = compose_together::<S, R, G>(hunters, alloc, first, second, limit);
     canonical_of_moves::<S>(alloc, first, second, labels, limit, hunted)
 }

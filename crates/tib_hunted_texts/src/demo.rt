@@ -20,6 +20,7 @@ use tib_grammar_file::{faults_have_no_text, read_grammar, read_grammars_are_prin
 use tib_io::{Failed, GrowingSink};
 use tib_lex::ReadError;
 use tib_operations::Status;
+use tib_reached::Hunters;
 use tib_texts::{kbest_text, product_has_laws, write_about, write_piece};
 use tib_tree::Labels;
 
@@ -151,16 +152,14 @@ pub fn summary_of<S: Semiring + Drop, G: Gate>(
 /// the order of their steps. It may wait forever, as the hunt by several workers. Errors are those
 /// of `summary_of`.
 pub fn summary_of_together<S: Semiring + Sync + Drop, R: Threads + Wait + Sync, G: Gate + Sync>(
-    rt: &R,
+    hunters: &Hunters<R, G>,
     alloc: Global,
     grammar: &Grammar<S>,
     labels: &Labels,
-    workers: u32,
     limit: u64,
-    gate: &G,
 ) -> Result<GrowingSink, Status>
     requires printable { ArePrintable S.SCALE labels.now grammar.now.rules }
-    requires workers { (1 ≤ workers) × (workers ≤ 16) }
+    requires workers { (1 ≤ hunters.now.workers) × (hunters.now.workers ≤ 16) }
     requires limit { IsLimit limit }
     ensures text { IfOk result (λ text. HasSummary S.SCALE S.product limit labels.now grammar.now
         text.bytes) }
@@ -168,7 +167,7 @@ pub fn summary_of_together<S: Semiring + Sync + Drop, R: Threads + Wait + Sync, 
     ensures err { IfErr result (IsSummaryFault S.LEVELLED S.product limit labels.now grammar.now) }
 {
     let determinized = determinization_of_together::<S, R, G>(
-        rt, alloc, grammar, labels, workers, limit, gate,
+        hunters, alloc, grammar, labels, limit,
     );
     summary_of_determinized::<S>(alloc, grammar, labels, limit, determinized)
 }
@@ -228,16 +227,14 @@ pub fn demo_of<S: Semiring + Drop, G: Gate>(
 /// order of their steps. It may wait forever, as the hunt by several workers. Errors are those of
 /// `demo_of`.
 pub fn demo_of_together<S: Semiring + Sync + Drop, R: Threads + Wait + Sync, G: Gate + Sync>(
-    rt: &R,
+    hunters: &Hunters<R, G>,
     alloc: Global,
     n: u32,
-    workers: u32,
     limit: u64,
-    gate: &G,
 ) -> Result<GrowingSink, Status>
     requires least { 1 ≤ n }
     requires most { n ≤ 16 }
-    requires workers { (1 ≤ workers) × (workers ≤ 16) }
+    requires workers { (1 ≤ hunters.now.workers) × (hunters.now.workers ≤ 16) }
     requires limit { IsLimit limit }
     ensures text { IfOk result (λ text. HasDemoText S.SCALE S.product limit n text.bytes) }
     ensures within { IfOk result (λ _. (demo_makes S.SCALE S.product limit n).within) }
@@ -248,5 +245,5 @@ pub fn demo_of_together<S: Semiring + Sync + Drop, R: Threads + Wait + Sync, G: 
         return Err(Status::OutOfMemory);
     };
     product_has_laws::<S>();
-    summary_of_together::<S, R, G>(rt, alloc, &grammar, &labels, workers, limit, gate)
+    summary_of_together::<S, R, G>(hunters, alloc, &grammar, &labels, limit)
 }

@@ -25,7 +25,7 @@ use tib_grammar::{Grammar, Rule};
 use tib_grammar_file::printable_is_labelled;
 use tib_normal::Normal;
 use tib_operations::Status;
-use tib_reached::{determinize, determinize_together};
+use tib_reached::{Hunters, determinize, determinize_together};
 use tib_texts::trimmed_form;
 use tib_tree::Labels;
 
@@ -128,16 +128,14 @@ pub fn determinization_of_together<
     R: Threads + Wait + Sync,
     G: Gate + Sync,
 >(
-    rt: &R,
+    hunters: &Hunters<R, G>,
     alloc: Global,
     grammar: &Grammar<S>,
     labels: &Labels,
-    workers: u32,
     limit: u64,
-    gate: &G,
 ) -> Result<Printed<S>, Status>
     requires grammar { ArePrintable S.SCALE labels.now grammar.now.rules }
-    requires workers { (1 ≤ workers) × (workers ≤ 16) }
+    requires workers { (1 ≤ hunters.now.workers) × (hunters.now.workers ≤ 16) }
     requires limit { IsLimit limit }
     ensures text { IfOk result (λ h. HasDeterminizedText S.SCALE S.product limit labels.now
         grammar.now h.text.bytes) }
@@ -152,6 +150,6 @@ pub fn determinization_of_together<
         Err(status) => return Err(status),
     };
     trimmed_forms_have_the_same_rules();
-    let hunted = determinize_together::<S, R, G>(rt, alloc, &form, workers, limit, gate);
+    let hunted = determinize_together::<S, R, G>(hunters, alloc, &form, limit);
     canonical_of_vectors::<S>(alloc, &form, labels, limit, hunted)
 }

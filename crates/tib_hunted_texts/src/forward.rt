@@ -25,7 +25,7 @@ use tib_grammar_file::printable_is_labelled;
 use tib_inside::inside;
 use tib_normal::Normal;
 use tib_operations::Status;
-use tib_reached::{apply_forward, apply_forward_together};
+use tib_reached::{Hunters, apply_forward, apply_forward_together};
 use tib_texts::{product_has_laws, trimmed_form};
 use tib_transducer::Transducer;
 use tib_tree::Labels;
@@ -124,19 +124,17 @@ pub fn forward_image_of_together<
     R: Threads + Wait + Sync,
     G: Gate + Sync,
 >(
-    rt: &R,
+    hunters: &Hunters<R, G>,
     alloc: Global,
     grammar: &Grammar<S>,
     transducer: &Transducer<S>,
     labels: &Labels,
-    workers: u32,
     limit: u64,
-    gate: &G,
 ) -> Result<Printed<S>, Status>
     requires grammar { ArePrintable S.SCALE labels.now grammar.now.rules }
     requires transducer { ArePlainMoves S.SCALE labels.now transducer.now.rules }
     requires class { AllMeet linear transducer.now.rules }
-    requires workers { (1 ≤ workers) × (workers ≤ 16) }
+    requires workers { (1 ≤ hunters.now.workers) × (hunters.now.workers ≤ 16) }
     requires limit { IsLimit limit }
     ensures text { IfOk result (λ h. HasForwardText S.SCALE S.product limit labels.now grammar.now
         transducer.now h.text.bytes) }
@@ -153,8 +151,6 @@ pub fn forward_image_of_together<
     };
     form.grammar();
     product_has_laws::<S>();
-    let hunted = apply_forward_together::<S, R, G>(
-        rt, alloc, &form, transducer, workers, limit, gate,
-    );
+    let hunted = apply_forward_together::<S, R, G>(hunters, alloc, &form, transducer, limit);
     canonical_of_forward_image::<S>(alloc, &form, transducer, labels, limit, hunted)
 }

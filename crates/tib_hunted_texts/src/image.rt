@@ -17,7 +17,7 @@ use tib_grammar::Rule;
 use tib_grammar_file::printable_is_labelled;
 use tib_image::Key;
 use tib_operations::Status;
-use tib_reached::{image, image_together};
+use tib_reached::{Hunters, image, image_together};
 use tib_transducer::Transducer;
 use tib_tree::{Labels, Tree};
 
@@ -91,17 +91,15 @@ pub fn outputs_of<S: Semiring + Drop, G: Gate>(
 /// order of their steps. It may wait forever, as the hunt by several workers. Errors are those of
 /// `outputs_of`.
 pub fn outputs_of_together<S: Semiring + Sync + Drop, R: Threads + Wait + Sync, G: Gate + Sync>(
-    rt: &R,
+    hunters: &Hunters<R, G>,
     alloc: Global,
     tree: &Tree,
     transducer: &Transducer<S>,
     labels: &Labels,
-    workers: u32,
     limit: u64,
-    gate: &G,
 ) -> Result<Printed<S>, Status>
     requires transducer { ArePlainMoves S.SCALE labels.now transducer.now.rules }
-    requires workers { (1 ≤ workers) × (workers ≤ 16) }
+    requires workers { (1 ≤ hunters.now.workers) × (hunters.now.workers ≤ 16) }
     requires limit { IsLimit limit }
     ensures text { IfOk result (λ h. HasImageText S.SCALE S.product limit labels.now tree.now
         transducer.now h.text.bytes) }
@@ -111,6 +109,6 @@ pub fn outputs_of_together<S: Semiring + Sync + Drop, R: Threads + Wait + Sync, 
     ensures err { IfErr result (IsMadeFault (image_makes limit tree.now transducer.now).more
         limit) }
 {
-    let hunted = image_together::<S, R, G>(rt, alloc, transducer, tree, workers, limit, gate);
+    let hunted = image_together::<S, R, G>(hunters, alloc, transducer, tree, limit);
     canonical_of_outputs::<S>(alloc, tree, transducer, labels, limit, hunted)
 }

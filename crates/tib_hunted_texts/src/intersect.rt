@@ -25,7 +25,7 @@ use tib_intersect::laws::{order_is_free, pairs_mean};
 use tib_key_edges::StatePair;
 use tib_normal::Normal;
 use tib_operations::Status;
-use tib_reached::{intersect, intersect_together};
+use tib_reached::{Hunters, intersect, intersect_together};
 use tib_texts::trimmed_form;
 use tib_tree::Labels;
 
@@ -120,18 +120,16 @@ pub fn intersection_of_together<
     R: Threads + Wait + Sync,
     G: Gate + Sync,
 >(
-    rt: &R,
+    hunters: &Hunters<R, G>,
     alloc: Global,
     first: &Grammar<S>,
     second: &Grammar<S>,
     labels: &Labels,
-    workers: u32,
     limit: u64,
-    gate: &G,
 ) -> Result<Printed<S>, Status>
     requires first { ArePrintable S.SCALE labels.now first.now.rules }
     requires second { ArePrintable S.SCALE labels.now second.now.rules }
-    requires workers { (1 ≤ workers) × (workers ≤ 16) }
+    requires workers { (1 ≤ hunters.now.workers) × (hunters.now.workers ≤ 16) }
     requires limit { IsLimit limit }
     ensures text { IfOk result (λ h. HasIntersectionText S.SCALE S.product limit labels.now
         first.now second.now h.text.bytes) }
@@ -152,6 +150,6 @@ pub fn intersection_of_together<
     };
     trimmed_forms_have_the_same_rules();
     order_is_free::<S>();
-    let hunted = intersect_together::<S, R, G>(rt, alloc, &one, &two, workers, limit, gate);
+    let hunted = intersect_together::<S, R, G>(hunters, alloc, &one, &two, limit);
     canonical_of_pairs::<S>(alloc, &one, &two, labels, limit, hunted)
 }

@@ -18,7 +18,7 @@ use tib_grammar::Rule;
 use tib_grammar_file::printable_is_labelled;
 use tib_image::parse::Key;
 use tib_operations::Status;
-use tib_reached::{parse, parse_together};
+use tib_reached::{Hunters, parse, parse_together};
 use tib_strings::StringTransducer;
 use tib_tree::{Label, Labels};
 
@@ -100,17 +100,15 @@ pub fn parse_of<S: Semiring + Drop, G: Gate>(
 /// order of their steps. It may wait forever, as the hunt by several workers. Errors are those of
 /// `parse_of`.
 pub fn parse_of_together<S: Semiring + Sync + Drop, R: Threads + Wait + Sync, G: Gate + Sync>(
-    rt: &R,
+    hunters: &Hunters<R, G>,
     alloc: Global,
     transducer: &StringTransducer<S>,
     string: &[Label],
     labels: &Labels,
-    workers: u32,
     limit: u64,
-    gate: &G,
 ) -> Result<Printed<S>, Status>
     requires transducer { ArePlainWords S.SCALE labels.now transducer.now.rules }
-    requires workers { (1 ≤ workers) × (workers ≤ 16) }
+    requires workers { (1 ≤ hunters.now.workers) × (hunters.now.workers ≤ 16) }
     requires limit { IsLimit limit }
     ensures text { IfOk result (λ h.
         HasParseText S.SCALE S.product limit labels.now transducer.now string.now h.text.bytes) }
@@ -120,6 +118,6 @@ pub fn parse_of_together<S: Semiring + Sync + Drop, R: Threads + Wait + Sync, G:
     ensures met { IfOk result (λ _. (parse_demands transducer.now).met) }
     ensures err { IfErr result (IsParseTextFault limit transducer.now string.now) }
 {
-    let hunted = parse_together::<S, R, G>(rt, alloc, transducer, string, workers, limit, gate);
+    let hunted = parse_together::<S, R, G>(hunters, alloc, transducer, string, limit);
     canonical_of_parse::<S>(alloc, transducer, string, labels, limit, hunted)
 }

@@ -5,6 +5,7 @@ ghost use Rattle.tib_expand.specs.Reached.{most_parts, IsBeyond};
 ghost use Rattle.tib_apply.specs.Applied.{IsReachedBy, HasPartsOf, AreOverOrder, IsApplyFault};
 ghost use Rattle.tib_apply.specs.Operations.{inverse_image};
 
+use crate::hunters::Hunters;
 use std::alloc::Global;
 use std::sync::Wait;
 use std::thread::Threads;
@@ -54,15 +55,13 @@ pub fn apply_backward<S: Semiring, G: Gate>(
 /// their steps. It may wait forever, as the hunt by several workers (`hunt` of tib_hunt). Errors
 /// are those of `apply_backward`, and so is the cost, except for keys that are expanded again.
 pub fn apply_backward_together<S: Semiring + Sync, R: Threads + Wait + Sync, G: Gate + Sync>(
-    rt: &R,
+    hunters: &Hunters<R, G>,
     alloc: Global,
     transducer: &Transducer<S>,
     grammar: &Normal<S>,
-    workers: u32,
     limit: u64,
-    gate: &G,
 ) -> Result<Found<Key, Rule<u32>>, ApplyError>
-    requires workers { (1 ≤ workers) × (workers ≤ 16) }
+    requires workers { (1 ≤ hunters.now.workers) × (hunters.now.workers ≤ 16) }
     requires some { 1 ≤ limit }
     requires limit { limit ≤ most_parts }
     ensures class { IfOk result (λ _. AllMeet (demands true true false false)
@@ -80,6 +79,13 @@ pub fn apply_backward_together<S: Semiring + Sync, R: Threads + Wait + Sync, G: 
         (IsBeyond hunted limit)) }
 {
     let backward = Backward::new(alloc, transducer, grammar)?;
-    let found = hunt(rt, alloc, &backward, workers, limit, gate)?;
+    let found = hunt(
+        hunters.rt,
+        alloc,
+        &backward,
+        hunters.workers,
+        limit,
+        hunters.gate,
+    )?;
     Ok(found)
 }

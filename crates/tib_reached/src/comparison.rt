@@ -7,6 +7,7 @@ ghost use Rattle.tib_compare.specs.Compared.{AreFree, IsCompared, IsSmall};
 ghost use Rattle.tib_compare.specs.Faults.{IsCause, IsWithin};
 
 use crate::determinization::{determinize, determinize_together};
+use crate::hunters::Hunters;
 use std::alloc::Global;
 use std::sync::Wait;
 use std::thread::Threads;
@@ -57,16 +58,14 @@ pub fn compare_alone<G: Gate>(
 /// their steps. It may wait forever, as the hunt by several workers (`hunt` of tib_hunt). Errors
 /// and cost are those of `compare_alone`, except for vectors that are expanded again.
 pub fn compare_supports<R: Threads + Wait + Sync, G: Gate + Sync>(
-    rt: &R,
+    hunters: &Hunters<R, G>,
     alloc: Global,
     left: &Normal<Boolean>,
     right: &Normal<Boolean>,
     labels: &Labels,
-    workers: u32,
     limit: u64,
-    gate: &G,
 ) -> Result<Compared, CompareError>
-    requires workers { (1 ≤ workers) × (workers ≤ 16) }
+    requires workers { (1 ≤ hunters.now.workers) × (hunters.now.workers ≤ 16) }
     requires some { 1 ≤ limit }
     requires limit { limit ≤ most_parts }
     requires left_free { AreFree left.now.rules }
@@ -81,7 +80,7 @@ pub fn compare_supports<R: Threads + Wait + Sync, G: Gate + Sync>(
     let Ok(both) = side_by_side(alloc, left, right) else {
         return Err(CompareError::OutOfMemory);
     };
-    match determinize_together::<Boolean, R, G>(rt, alloc, &both, workers, limit, gate) {
+    match determinize_together::<Boolean, R, G>(hunters, alloc, &both, limit) {
         Ok(found) => compare_vectors(alloc, left, right, labels, limit, &found),
         Err(error) => Err(fault_of(error)),
     }

@@ -7,6 +7,7 @@ ghost use Rattle.tib_transducer.specs.Range.{AreShaped};
 ghost use Rattle.tib_key_edges.specs.Composition.{composition};
 ghost use Rattle.tib_compose.specs.Composed.{AreOverOrder, HasPartsOf, IsComposeFault, IsReachedBy};
 
+use crate::hunters::Hunters;
 use std::alloc::Global;
 use std::sync::Wait;
 use std::thread::Threads;
@@ -57,15 +58,13 @@ pub fn compose<S: Semiring, G: Gate>(
 /// steps. It may wait forever, as the hunt by several workers (`hunt` of tib_hunt). Errors are
 /// those of `compose`, and so is the cost, except for pairs that are expanded again.
 pub fn compose_together<S: Semiring + Sync, R: Threads + Wait + Sync, G: Gate + Sync>(
-    rt: &R,
+    hunters: &Hunters<R, G>,
     alloc: Global,
     first: &Transducer<S>,
     second: &Transducer<S>,
-    workers: u32,
     limit: u64,
-    gate: &G,
 ) -> Result<Found<StatePair, TransducerRule<u32>>, ComposeError>
-    requires workers { (1 ≤ workers) × (workers ≤ 16) }
+    requires workers { (1 ≤ hunters.now.workers) × (hunters.now.workers ≤ 16) }
     requires some { 1 ≤ limit }
     requires limit { limit ≤ most_parts }
     ensures class { IfOk result (λ _. AllMeet (demands true true true true) second.now.rules) }
@@ -81,6 +80,13 @@ pub fn compose_together<S: Semiring + Sync, R: Threads + Wait + Sync, G: Gate + 
 {
     first.is_sound();
     let composite = Composite::new(alloc, first, second)?;
-    let found = hunt(rt, alloc, &composite, workers, limit, gate)?;
+    let found = hunt(
+        hunters.rt,
+        alloc,
+        &composite,
+        hunters.workers,
+        limit,
+        hunters.gate,
+    )?;
     Ok(found)
 }

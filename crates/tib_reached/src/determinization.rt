@@ -5,6 +5,7 @@ ghost use Rattle.tib_expand.specs.Reached.{most_parts, IfTooMany, IsBeyond};
 ghost use Rattle.tib_determinize.specs.Answered.{HasParts, IsAnswer};
 ghost use Rattle.tib_determinize.specs.Determinization.{determinization};
 
+use crate::hunters::Hunters;
 use std::alloc::Global;
 use std::sync::Wait;
 use std::thread::Threads;
@@ -48,14 +49,12 @@ pub fn determinize<S: Semiring, G: Gate>(
 /// their steps. It may wait forever, as the hunt by several workers (`hunt` of tib_hunt). Errors
 /// are those of `determinize`, and so is the cost, except for vectors that are expanded again.
 pub fn determinize_together<S: Semiring + Sync, R: Threads + Wait + Sync, G: Gate + Sync>(
-    rt: &R,
+    hunters: &Hunters<R, G>,
     alloc: Global,
     normal: &Normal<S>,
-    workers: u32,
     limit: u64,
-    gate: &G,
 ) -> Result<Found<Vector, Rule<u32>>, HuntError>
-    requires workers { (1 ≤ workers) × (workers ≤ 16) }
+    requires workers { (1 ≤ hunters.now.workers) × (hunters.now.workers ≤ 16) }
     requires some { 1 ≤ limit }
     requires limit { limit ≤ most_parts }
     ensures determinized { IfOk result (IsAnswer S.product normal.now.rules) }
@@ -69,5 +68,12 @@ pub fn determinize_together<S: Semiring + Sync, R: Threads + Wait + Sync, G: Gat
     let Ok(residuals) = Residuals::new(alloc, normal) else {
         return Err(HuntError::OutOfMemory);
     };
-    hunt(rt, alloc, &residuals, workers, limit, gate)
+    hunt(
+        hunters.rt,
+        alloc,
+        &residuals,
+        hunters.workers,
+        limit,
+        hunters.gate,
+    )
 }

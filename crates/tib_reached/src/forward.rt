@@ -5,6 +5,7 @@ ghost use Rattle.tib_expand.specs.Reached.{most_parts, IsBeyond};
 ghost use Rattle.tib_apply.specs.Applied.{IsReachedBy, HasPartsOf, AreOverOrder, IsApplyFault};
 ghost use Rattle.tib_apply.specs.Operations.{forward_image};
 
+use crate::hunters::Hunters;
 use std::alloc::Global;
 use std::sync::Wait;
 use std::thread::Threads;
@@ -57,15 +58,13 @@ pub fn apply_forward<S: Semiring, G: Gate>(
 /// their steps. It may wait forever, as the hunt by several workers (`hunt` of tib_hunt). Errors
 /// are those of `apply_forward`, and so is the cost, except for keys that are expanded again.
 pub fn apply_forward_together<S: Semiring + Sync, R: Threads + Wait + Sync, G: Gate + Sync>(
-    rt: &R,
+    hunters: &Hunters<R, G>,
     alloc: Global,
     grammar: &Normal<S>,
     transducer: &Transducer<S>,
-    workers: u32,
     limit: u64,
-    gate: &G,
 ) -> Result<Found<Key, Rule<u32>>, ApplyError>
-    requires workers { (1 ≤ workers) × (workers ≤ 16) }
+    requires workers { (1 ≤ hunters.now.workers) × (hunters.now.workers ≤ 16) }
     requires some { 1 ≤ limit }
     requires limit { limit ≤ most_parts }
     ensures class { IfOk result (λ _. AllMeet (demands true false false false)
@@ -83,6 +82,13 @@ pub fn apply_forward_together<S: Semiring + Sync, R: Threads + Wait + Sync, G: G
         (IsBeyond hunted limit)) }
 {
     let forward = Forward::new(alloc, grammar, transducer)?;
-    let found = hunt(rt, alloc, &forward, workers, limit, gate)?;
+    let found = hunt(
+        hunters.rt,
+        alloc,
+        &forward,
+        hunters.workers,
+        limit,
+        hunters.gate,
+    )?;
     Ok(found)
 }

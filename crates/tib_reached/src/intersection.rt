@@ -5,6 +5,7 @@ ghost use Rattle.tib_expand.specs.Reached.{most_parts, IfTooMany, IsBeyond};
 ghost use Rattle.tib_intersect.specs.Answered.{IsIntersection, IsGrammar, HasParts, HaveRootsOf};
 ghost use Rattle.tib_intersect.specs.Intersection.{intersection};
 
+use crate::hunters::Hunters;
 use std::alloc::Global;
 use std::sync::Wait;
 use std::thread::Threads;
@@ -52,15 +53,13 @@ pub fn intersect<S: Semiring, G: Gate>(
 /// steps. It may wait forever, as the hunt by several workers (`hunt` of tib_hunt). Errors are
 /// those of `intersect`, and so is the cost, except for pairs that are expanded again.
 pub fn intersect_together<S: Semiring + Sync, R: Threads + Wait + Sync, G: Gate + Sync>(
-    rt: &R,
+    hunters: &Hunters<R, G>,
     alloc: Global,
     left: &Normal<S>,
     right: &Normal<S>,
-    workers: u32,
     limit: u64,
-    gate: &G,
 ) -> Result<Found<StatePair, Rule<u32>>, HuntError>
-    requires workers { (1 ≤ workers) × (workers ≤ 16) }
+    requires workers { (1 ≤ hunters.now.workers) × (hunters.now.workers ≤ 16) }
     requires some { 1 ≤ limit }
     requires limit { limit ≤ most_parts }
     ensures reached { IfOk result (IsIntersection S.product left.now.rules right.now.rules) }
@@ -76,5 +75,12 @@ pub fn intersect_together<S: Semiring + Sync, R: Threads + Wait + Sync, G: Gate 
     let Ok(pairs) = Pairs::new(alloc, left, right) else {
         return Err(HuntError::OutOfMemory);
     };
-    hunt(rt, alloc, &pairs, workers, limit, gate)
+    hunt(
+        hunters.rt,
+        alloc,
+        &pairs,
+        hunters.workers,
+        limit,
+        hunters.gate,
+    )
 }

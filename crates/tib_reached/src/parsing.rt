@@ -5,6 +5,7 @@ ghost use Rattle.tib_expand.specs.Reached.{most_parts};
 ghost use Rattle.tib_strings.specs.Range.{AreLinear, AreNondeleting};
 ghost use Rattle.tib_image.specs.ParseAnswered.{IsParsed, AreOverOrder, HasParts, HasStringSeries, IsParseFault};
 
+use crate::hunters::Hunters;
 use std::alloc::Global;
 use std::sync::Wait;
 use std::thread::Threads;
@@ -59,15 +60,13 @@ pub fn parse<S: Semiring, G: Gate>(
 /// steps. It may wait forever, as the hunt by several workers (`hunt` of tib_hunt). Errors are
 /// those of `parse`, and so is the cost, except for keys that are expanded again.
 pub fn parse_together<S: Semiring + Sync, R: Threads + Wait + Sync, G: Gate + Sync>(
-    rt: &R,
+    hunters: &Hunters<R, G>,
     alloc: Global,
     transducer: &StringTransducer<S>,
     string: &[Label],
-    workers: u32,
     limit: u64,
-    gate: &G,
 ) -> Result<Found<Key, Rule<u32>>, ApplyError>
-    requires workers { (1 ≤ workers) × (workers ≤ 16) }
+    requires workers { (1 ≤ hunters.now.workers) × (hunters.now.workers ≤ 16) }
     requires some { 1 ≤ limit }
     requires limit { limit ≤ most_parts }
     ensures linear { IfOk result (λ _. AreLinear transducer.now.rules) }
@@ -84,6 +83,13 @@ pub fn parse_together<S: Semiring + Sync, R: Threads + Wait + Sync, G: Gate + Sy
     transducer.is_sound();
     reached_parses::<S>();
     let problem = Parse::new(alloc, transducer, string)?;
-    let found = hunt(rt, alloc, &problem, workers, limit, gate)?;
+    let found = hunt(
+        hunters.rt,
+        alloc,
+        &problem,
+        hunters.workers,
+        limit,
+        hunters.gate,
+    )?;
     Ok(found)
 }

@@ -5,6 +5,7 @@ ghost use Rattle.tib_expand.specs.Reached.{most_parts, IfTooMany, IsBeyond};
 ghost use Rattle.tib_image.specs.Answered.{IsImage, AreOverOrder, HasParts};
 ghost use Rattle.tib_image.specs.Image.{image_of};
 
+use crate::hunters::Hunters;
 use std::alloc::Global;
 use std::sync::Wait;
 use std::thread::Threads;
@@ -53,15 +54,13 @@ pub fn image<S: Semiring, G: Gate>(
 /// steps. It may wait forever, as the hunt by several workers (`hunt` of tib_hunt). Errors are
 /// those of `image`, and so is the cost, except for keys that are expanded again.
 pub fn image_together<S: Semiring + Sync, R: Threads + Wait + Sync, G: Gate + Sync>(
-    rt: &R,
+    hunters: &Hunters<R, G>,
     alloc: Global,
     transducer: &Transducer<S>,
     tree: &Tree,
-    workers: u32,
     limit: u64,
-    gate: &G,
 ) -> Result<Found<Key, Rule<u32>>, HuntError>
-    requires workers { (1 ≤ workers) × (workers ≤ 16) }
+    requires workers { (1 ≤ hunters.now.workers) × (hunters.now.workers ≤ 16) }
     requires some { 1 ≤ limit }
     requires limit { limit ≤ most_parts }
     ensures reached { IfOk result (IsImage transducer.now.rules tree.now) }
@@ -76,5 +75,12 @@ pub fn image_together<S: Semiring + Sync, R: Threads + Wait + Sync, G: Gate + Sy
     let Ok(problem) = Image::new(alloc, transducer, tree) else {
         return Err(HuntError::OutOfMemory);
     };
-    hunt(rt, alloc, &problem, workers, limit, gate)
+    hunt(
+        hunters.rt,
+        alloc,
+        &problem,
+        hunters.workers,
+        limit,
+        hunters.gate,
+    )
 }

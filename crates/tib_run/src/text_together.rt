@@ -22,6 +22,7 @@ use tib_hunted_texts::{
 use tib_io::GrowingSink;
 use tib_job::Values;
 use tib_operations::Status;
+use tib_reached::Hunters;
 use tib_texts::{demand, demand_plain};
 use tib_tree::Labels;
 
@@ -41,32 +42,34 @@ pub(crate) fn text_together<S: Semiring + Sync + Drop, R: Threads + Wait + Sync,
     ensures { IsOutcome job.now.operation
         (setting_of S.SCALE S.LEVELLED S.product (meaning job.now) labels.now) values.now result }
 {
-    let workers = job.workers;
     let limit = job.limit;
+    let hunters = Hunters {
+        rt,
+        workers: job.workers,
+        gate,
+    };
     match values {
         Values::Grammar(grammar) => match job.operation {
             Operation::Determinize => grammar_text(determinization_of_together::<S, R, G>(
-                rt, alloc, grammar, labels, workers, limit, gate,
+                &hunters, alloc, grammar, labels, limit,
             )),
             _ => text_of::<S, R, G>(rt, alloc, job, values, labels, gate),
         },
         Values::Grammars(first, second) => grammar_text(intersection_of_together::<S, R, G>(
-            rt, alloc, first, second, labels, workers, limit, gate,
+            &hunters, alloc, first, second, labels, limit,
         )),
         Values::Supports(first, second) => comparison_of_together::<R, G>(
-            rt,
+            &hunters,
             alloc,
             &first.grammar,
             &second.grammar,
             labels,
-            workers,
             limit,
-            gate,
         ),
         Values::GrammarAndTransducer(grammar, transducer) => {
             match demand::<S>(transducer, 2, true, false) {
                 Ok(()) => grammar_text(forward_image_of_together::<S, R, G>(
-                    rt, alloc, grammar, transducer, labels, workers, limit, gate,
+                    &hunters, alloc, grammar, transducer, labels, limit,
                 )),
                 Err(status) => Err(status),
             }
@@ -74,26 +77,26 @@ pub(crate) fn text_together<S: Semiring + Sync + Drop, R: Threads + Wait + Sync,
         Values::TransducerAndGrammar(transducer, grammar) => {
             match demand::<S>(transducer, 1, true, true) {
                 Ok(()) => grammar_text(inverse_image_of_together::<S, R, G>(
-                    rt, alloc, transducer, grammar, labels, workers, limit, gate,
+                    &hunters, alloc, transducer, grammar, labels, limit,
                 )),
                 Err(status) => Err(status),
             }
         }
         Values::Transducers(first, second) => match demand_plain::<S>(second, 2) {
             Ok(()) => transducer_text(composition_of_together::<S, R, G>(
-                rt, alloc, first, second, labels, workers, limit, gate,
+                &hunters, alloc, first, second, labels, limit,
             )),
             Err(status) => Err(status),
         },
         Values::TreeAndTransducer(tree, transducer) => grammar_text(outputs_of_together::<S, R, G>(
-            rt, alloc, tree, transducer, labels, workers, limit, gate,
+            &hunters, alloc, tree, transducer, labels, limit,
         )),
         Values::StringTransducerAndString(transducer, string) => {
             grammar_text(parse_of_together::<S, R, G>(
-                rt, alloc, transducer, string, labels, workers, limit, gate,
+                &hunters, alloc, transducer, string, labels, limit,
             ))
         }
-        Values::Nothing => demo_of_together::<S, R, G>(rt, alloc, job.demo, workers, limit, gate),
+        Values::Nothing => demo_of_together::<S, R, G>(&hunters, alloc, job.demo, limit),
         _ => text_of::<S, R, G>(rt, alloc, job, values, labels, gate),
     }
 }

@@ -1,7 +1,7 @@
 -- Parts of a string between places, and the cuts of a list over them.
 use Rattle.std.specs.Prelude.{◌≡◌, ℕ, ◌+◌, ◌<◌, ◌≤◌, List, [], ◌∷◌, ◌++◌, length, map, refl}
 use Rattle.std.proofs.Common.{zero, suc, arith, ap, sym, ◌∙◌, get_or, length-append}
-use Rattle.tib_lex.specs.ListSides.{Each}
+use Rattle.tib_lex.specs.Lists.{Each}
 use Rattle.tib_strings.specs.Rules.{pairs_of}
 use Rattle.tib_strings.specs.Run.{put}
 use Rattle.tib_strings.specs.Cuts.{IsCut, spans}

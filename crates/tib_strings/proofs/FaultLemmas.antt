@@ -1,7 +1,7 @@
 -- Nondeleting rules by the items of their left sides and the words of their right sides.
 use Rattle.std.specs.Prelude.{◌≡◌, ℕ, List, [], ◌∷◌}
 use Rattle.std.proofs.Common.{sym, subst}
-use Rattle.tib_lex.specs.ListSides.{Has, Each, Distinct}
+use Rattle.tib_lex.specs.Lists.{Has, Each, Distinct}
 use Rattle.tib_tree.specs.Trees.{preorder_of}
 use Rattle.tib_grammar.specs.Items.{pairs_of as preorder_pairs, holes_in}
 use Rattle.tib_grammar.specs.declared.Item.{Item}

@@ -4,7 +4,7 @@ use Rattle.tib_cost.specs.declared.Scale.{Scale}
 use Rattle.std.proofs.Common.{◌≡◌, ℕ, ◌+◌, List, [], ◌∷◌, length, sym, ◌∙◌, arith}
 use Rattle.std.specs.Prelude.{Ok, Err}
 use Rattle.tib_lex.specs.Lines.{lines_of}
-use Rattle.tib_lex.specs.ListSides.{Along, Each}
+use Rattle.tib_lex.specs.Lists.{Along, Each}
 use Rattle.tib_lex.specs.declared.fault.FileFault.{FileFault}
 use Rattle.tib_tree.specs.Trees.{preorder_of}
 use Rattle.tib_grammar_file.proofs.Alongs.{along_long}

@@ -1,7 +1,7 @@
 -- What is read of a string file is what it holds.
 use Rattle.std.proofs.Common.{◌≡◌, ℕ, ◌≤◌, inl, inr, List, [], ◌∷◌, length, refl, ap, sym, ◌∙◌, Option, suc}
 use Rattle.std.specs.Prelude.{Some, None, Result, Ok, Err}
-use Rattle.tib_lex.specs.ListSides.{Each}
+use Rattle.tib_lex.specs.Lists.{Each}
 use Rattle.tib_lex.specs.declared.fault.FaultKind.{FaultKind}
 use Rattle.tib_lex.specs.declared.fault.FaultKind.TheVariants as kinds
 use Rattle.tib_lex.specs.declared.fault.FileFault.{FileFault}

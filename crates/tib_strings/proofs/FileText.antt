@@ -2,7 +2,7 @@
 use Rattle.tib_cost.specs.declared.Scale.{Scale}
 use Rattle.std.proofs.Common.{◌≡◌, ℕ, ◌+◌, ◌<◌, List, [], ◌∷◌, length, refl, ap, sym, ◌∙◌, subst, arith, suc}
 use Rattle.std.specs.Prelude.{nat_lt}
-use Rattle.tib_lex.specs.ListSides.{Along, Each}
+use Rattle.tib_lex.specs.Lists.{Along, Each}
 use Rattle.tib_lex.proofs.Spelled.{or_false}
 use Rattle.tib_tree.specs.Grows.{AddsAll}
 use Rattle.tib_tree.specs.Trees.{preorder_of, most_nodes}

@@ -1,7 +1,7 @@
 -- Bytes are the text of at most one transducer over one table of distinct labels.
 use Rattle.tib_cost.specs.declared.Scale.{Scale}
 use Rattle.std.proofs.Common.{◌≡◌, ℕ, List, [], ◌∷◌, refl, ap, ◌∙◌}
-use Rattle.tib_lex.specs.ListSides.{Along, Distinct}
+use Rattle.tib_lex.specs.Lists.{Along, Distinct}
 use Rattle.tib_tree.specs.Trees.{Tree, only}
 use Rattle.tib_grammar.specs.Sides.{Symbol}
 use Rattle.tib_strings.specs.StringTransducerOf.{StringTransducerOf}

@@ -1,6 +1,6 @@
 -- The shape of a rule by the items of its left side and the words of its right side.
 use Rattle.std.proofs.Common.{◌≡◌, ℕ, ◌<◌, List, length, ap, sym, ◌∙◌, subst, true}
-use Rattle.tib_lex.specs.ListSides.{Each}
+use Rattle.tib_lex.specs.Lists.{Each}
 use Rattle.tib_tree.specs.Trees.{preorder_of}
 use Rattle.tib_grammar.specs.Items.{pairs_of as preorder_pairs, holes_in}
 use Rattle.tib_grammar.specs.Range.{AllBelow}

@@ -1,7 +1,7 @@
 -- Rules that stand for lines have their shape, and their states have names.
 use Rattle.std.proofs.Common.{◌≡◌, ℕ, ◌<◌, List, [], ◌∷◌, length, refl, arith, Option, zero, suc}
 use Rattle.std.proofs.lemmas.Option.{slice_get_within}
-use Rattle.tib_lex.specs.ListSides.{Along, Each}
+use Rattle.tib_lex.specs.Lists.{Along, Each}
 use Rattle.tib_tree.specs.Trees.{none}
 use Rattle.tib_tree.specs.Written.{Item}
 use Rattle.tib_grammar.specs.Sides.{Symbol, label, hole, Side}

@@ -5,7 +5,7 @@ use Rattle.std.specs.Prelude.{Some, None, Result, Ok, Err, nat_eq}
 use Rattle.std.specs.List.{list_any}
 use Rattle.tib_lex.specs.Grammar.{Word, open_, close, hash, arrow, name, label as tok_label}
 use Rattle.tib_lex.specs.Lines.{lines_of}
-use Rattle.tib_lex.specs.ListSides.{Along, Each}
+use Rattle.tib_lex.specs.Lists.{Along, Each}
 use Rattle.tib_lex.specs.declared.fault.FileFault.{FileFault}
 use Rattle.tib_lex.proofs.Members.{has_left, has_right}
 use Rattle.tib_lex.proofs.Spelled.{or_false}

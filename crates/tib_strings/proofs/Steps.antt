@@ -7,7 +7,7 @@ use Rattle.std.proofs.lemmas.List.{take_all, take_more, length-map, map-append}
 use Rattle.std.proofs.lemmas.List.Folds.{list_all-map, list_all_at}
 use Rattle.tib_lex.specs.Grammar.{Word, open_, close, hash, arrow, name, label}
 use Rattle.tib_lex.specs.Line.{words_of, word_at, words_at, text_of, Lies}
-use Rattle.tib_lex.specs.ListSides.{Along}
+use Rattle.tib_lex.specs.Lists.{Along}
 use Rattle.tib_lex.specs.declared.token.Token.{Token}
 use Rattle.tib_lex.specs.declared.fault.FaultKind.TheVariants as kinds
 use Rattle.tib_lex.proofs.Alongs.{along_map, along_more}

@@ -4,7 +4,7 @@ use Rattle.std.specs.Prelude.{Option, Some, None, Result, Ok, Err, slice_range, 
 use Rattle.std.proofs.lemmas.Option.{get_or_from_slice_get, slice_get_within}
 use Rattle.tib_lex.specs.Line.{words_at}
 use Rattle.tib_lex.specs.Lines.{lines_of}
-use Rattle.tib_lex.specs.ListSides.{Along, Each, Has, Distinct}
+use Rattle.tib_lex.specs.Lists.{Along, Each, Has, Distinct}
 use Rattle.tib_lex.specs.FaultOf.{file_error_of}
 use Rattle.tib_lex.specs.NextLine.{IsNextLine}
 use Rattle.tib_lex.specs.declared.lines.Line.{Line}

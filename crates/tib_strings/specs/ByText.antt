@@ -1,6 +1,6 @@
 -- Tree-to-string transducers that agree by the texts of their labels, each over a table of its own.
 use Rattle.std.specs.Prelude.{◌≡◌, ℕ, List}
-use Rattle.tib_lex.specs.ListSides.{Along}
+use Rattle.tib_lex.specs.Lists.{Along}
 use Rattle.tib_tree.specs.Trees.{only}
 use Rattle.tib_grammar_file.specs.ByText.{HaveOneShape}
 use Rattle.tib_strings.specs.StringTransducerOf.{StringTransducerOf}

@@ -5,9 +5,9 @@ use Rattle.std.specs.List.{list_all}
 use Rattle.std.specs.Str.{bytes_eq}
 use Rattle.std.proofs.lemmas.Slice.Eq.{bytes_eq-Decides}
 use Rattle.tib_lex.specs.Grammar.{Word, open_, close, hash, arrow, name, label}
-use Rattle.tib_lex.specs.ListSides.{Along}
+use Rattle.tib_lex.specs.Lists.{Along}
 use Rattle.tib_lex.proofs.Booleans.{and-true, and-both}
-use Rattle.tib_lex.proofs.ListSides.{some_is}
+use Rattle.tib_lex.proofs.Lists.{some_is}
 use Rattle.tib_tree.specs.Written.{Item}
 use Rattle.tib_grammar_file.proofs.RulesRead.{HasNoHash}
 use Rattle.tib_transducer_file.specs.Formats.{IsFormat}

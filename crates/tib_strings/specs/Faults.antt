@@ -1,6 +1,6 @@
 -- Why a rule is not in the class that parsing takes.
 use Rattle.std.specs.Prelude.{ℕ, ◌-◌, ◌<◌, ◌≤◌, List, [], ◌∷◌, length}
-use Rattle.tib_lex.specs.ListSides.{Has}
+use Rattle.tib_lex.specs.Lists.{Has}
 use Rattle.tib_transducer.specs.declared.Variable.{Variable}
 use Rattle.tib_strings.specs.Rules.{string_rule}
 use Rattle.tib_strings.specs.Range.{IsLinear, IsNondeleting}

@@ -1,6 +1,6 @@
 -- Rules whose labels are in a table.
 use Rattle.std.specs.Prelude.{ℕ, List}
-use Rattle.tib_lex.specs.ListSides.{Each}
+use Rattle.tib_lex.specs.Lists.{Each}
 use Rattle.tib_tree.specs.Trees.{preorder_of}
 use Rattle.tib_strings.specs.declared.StringRule.{StringRule}
 pub use Rattle.tib_transducer_file.specs.Labelled.{IsAskedBelow, IsBelowOnLeft, IsBelowOnRight}

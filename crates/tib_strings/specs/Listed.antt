@@ -3,7 +3,7 @@ use Rattle.std.specs.Prelude.{◌≡◌, ◌⊎◌, ℕ, Bool, true, false, not,
 use Rattle.std.specs.List.{list_all}
 use Rattle.std.specs.Str.{bytes_eq}
 use Rattle.tib_lex.specs.Grammar.{Word, name, label}
-use Rattle.tib_lex.specs.ListSides.{Along}
+use Rattle.tib_lex.specs.Lists.{Along}
 use Rattle.tib_tree.specs.Shape.{item_of as node_of}
 use Rattle.tib_tree.specs.Written.{Item, item}
 

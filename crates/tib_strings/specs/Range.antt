@@ -1,6 +1,6 @@
 -- The shape and the classes of the rules of tree-to-string transducers.
 use Rattle.std.specs.Prelude.{ℕ, ◌<◌, List, length}
-use Rattle.tib_lex.specs.ListSides.{Has, Each, Distinct}
+use Rattle.tib_lex.specs.Lists.{Has, Each, Distinct}
 use Rattle.tib_grammar.specs.Range.{AllBelow}
 use Rattle.tib_transducer.specs.Rules.{variables_of}
 use Rattle.tib_transducer.specs.Range.{BeginsWithLabel, AreNumbered}

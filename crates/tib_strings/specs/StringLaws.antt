@@ -1,6 +1,6 @@
 -- What holds of the texts of strings, and of the first fault of a file.
 use Rattle.std.specs.Prelude.{◌≡◌, ◌⊎◌, ℕ, List, Err}
-use Rattle.tib_lex.specs.ListSides.{Distinct}
+use Rattle.tib_lex.specs.Lists.{Distinct}
 use Rattle.tib_lex.specs.declared.fault.FileFault.{FileFault}
 use Rattle.tib_strings.specs.StringText.{ReadsAsString, words_of_string}
 use Rattle.tib_strings.specs.StringFaults.{IsFirstStringFault}

@@ -2,7 +2,7 @@
 use Rattle.std.specs.Prelude.{◌≤◌, ◌⊎◌, ℕ, List, [], ◌∷◌, length, map}
 use Rattle.tib_lex.specs.Grammar.{Word, HasWords}
 use Rattle.tib_lex.specs.Lines.{lines_of}
-use Rattle.tib_lex.specs.ListSides.{Along, Each}
+use Rattle.tib_lex.specs.Lists.{Along, Each}
 use Rattle.tib_tree.specs.Growth.{text_at}
 use Rattle.tib_tree.specs.Trees.{most_nodes}
 use Rattle.tib_tree.specs.Written.{Item}

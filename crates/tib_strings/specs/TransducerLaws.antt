@@ -1,7 +1,7 @@
 -- What holds of the texts of tree-to-string transducers, and of the first fault of a file.
 use Rattle.tib_cost.specs.declared.Scale.{Scale}
 use Rattle.std.specs.Prelude.{◌≡◌, ℕ, List}
-use Rattle.tib_lex.specs.ListSides.{Distinct}
+use Rattle.tib_lex.specs.Lists.{Distinct}
 use Rattle.tib_lex.specs.declared.fault.FileFault.{FileFault}
 use Rattle.tib_strings.specs.StringTransducerOf.{StringTransducerOf}
 use Rattle.tib_strings.specs.TransducerText.{ReadsAs}

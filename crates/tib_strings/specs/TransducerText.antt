@@ -2,7 +2,7 @@
 use Rattle.tib_cost.specs.declared.Scale.{Scale}
 use Rattle.std.specs.Prelude.{◌≤◌, ℕ, List, [], ◌∷◌, length}
 use Rattle.tib_lex.specs.Lines.{lines_of}
-use Rattle.tib_lex.specs.ListSides.{Along, Each}
+use Rattle.tib_lex.specs.Lists.{Along, Each}
 use Rattle.tib_tree.specs.Grows.{AddsAll}
 use Rattle.tib_tree.specs.Trees.{preorder_of, most_nodes}
 use Rattle.tib_strings.specs.StringTransducerOf.{StringTransducerOf}

@@ -1,6 +1,6 @@
 // The first rule that is not linear or not nondeleting.
 ghost use Rattle.std.specs.Prelude.{◌≡◌, ℕ, ◌-◌, ◌<◌, ◌≤◌, ◌^◌, length, IsTrue, false, IfSome, None, Some};
-ghost use Rattle.tib_lex.specs.ListSides.{Has, Distinct};
+ghost use Rattle.tib_lex.specs.Lists.{Has, Distinct};
 ghost use Rattle.tib_grammar.specs.Items.{holes_in};
 ghost use Rattle.tib_strings.specs.Rules.{variables_in};
 ghost use Rattle.tib_strings.specs.Range.{IsLinear, IsNondeleting, AreLinear, AreNondeleting};

@@ -4,7 +4,7 @@ ghost use Rattle.std.specs.List.{list_all};
 ghost use Rattle.tib_lex.specs.Limits.{most_bytes};
 ghost use Rattle.tib_lex.specs.Line.{Lies, word_at, words_at};
 ghost use Rattle.tib_lex.specs.Lines.{HasNoFeed};
-ghost use Rattle.tib_lex.specs.ListSides.{Along};
+ghost use Rattle.tib_lex.specs.Lists.{Along};
 ghost use Rattle.tib_tree.specs.Grows.{Grows, AddsAll};
 ghost use Rattle.tib_tree.specs.Trees.{most_nodes};
 ghost use Rattle.tib_strings.specs.Listed.{is_mark as spec_is_mark, is_mark_alone as spec_is_mark_alone, is_entry as spec_is_entry, item_of, texts_of, IsNamed};

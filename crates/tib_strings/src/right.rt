@@ -27,7 +27,7 @@ use tib_tree::{Labels, Place};
 
 /// Reads right sides that are lists.
 #[derive(Drop)]
-pub(crate) struct ListSides {
+pub(crate) struct Lists {
     pub places: Vec<Place>,
 }
 
@@ -123,7 +123,7 @@ fn right_word(
     Ok(word_of(item))
 }
 
-impl RightReader for ListSides {
+impl RightReader for Lists {
     ghost use Rattle.tib_strings.specs.Entries.{lists};
     ghost use Rattle.tib_strings.specs.Listed.{SpellsList, list_in};
     ghost use Rattle.tib_strings.specs.RuleValue.{IsLeaf, AreAnyItems, node_of, string_view};
@@ -146,8 +146,8 @@ impl RightReader for ListSides {
 
     ghost view = { string_view };
 
-    fn new(alloc: Global) -> ListSides {
-        ListSides {
+    fn new(alloc: Global) -> Lists {
+        Lists {
             places: Vec::new(alloc),
         }
     }

@@ -2,7 +2,7 @@
 ghost use Rattle.std.specs.Prelude.{◌≤◌, ◌<◌, ◌+◌, ◌-◌, ◌^◌, length, drop, IfOk, IfErr};
 ghost use Rattle.tib_lex.specs.Limits.{most_bytes};
 ghost use Rattle.tib_lex.specs.Lines.{lines_of};
-ghost use Rattle.tib_lex.specs.ListSides.{Each};
+ghost use Rattle.tib_lex.specs.Lists.{Each};
 ghost use Rattle.tib_tree.specs.Grows.{Grows, AddsAll};
 ghost use Rattle.tib_strings.specs.StringText.{ReadsAsString, words_of_string};
 ghost use Rattle.tib_strings.specs.StringFaults.{IsStringCause};

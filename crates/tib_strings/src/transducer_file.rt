@@ -7,7 +7,7 @@ ghost use Rattle.tib_strings.specs.Labelled.{AreLabelled};
 ghost use Rattle.tib_strings.specs.TransducerText.{ReadsAs};
 ghost use Rattle.tib_strings.specs.FileFaults.{IsCause};
 
-use crate::right::ListSides;
+use crate::right::Lists;
 use crate::{StringRule, StringTransducer};
 use std::alloc::Global;
 use tib_cost::Semiring;
@@ -55,7 +55,7 @@ pub fn read_string_transducer<S: Semiring>(
     ensures labels { Grows labels.old labels.new }
     ensures few { length labels.new ≤ length labels.old + length bytes.now }
 {
-    match read_file::<S, ListSides>(alloc, bytes, labels) {
+    match read_file::<S, Lists>(alloc, bytes, labels) {
         Ok(file) => Ok(transducer_over(file.names, file.rules)),
         Err(error) => Err(error),
     }

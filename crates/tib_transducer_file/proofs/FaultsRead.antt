@@ -12,7 +12,7 @@ use Rattle.tib_lex.specs.declared.fault.FaultKind.TheVariants as kinds
 use Rattle.tib_lex.specs.declared.fault.FileFault.{FileFault}
 use Rattle.tib_lex.proofs.FirstFaults.{fault_is}
 use Rattle.tib_lex.proofs.Results.{err_same}
-use Rattle.tib_tree.specs.TreeSides.{most_nodes}
+use Rattle.tib_tree.specs.Trees.{most_nodes}
 use Rattle.tib_tree.specs.Written.{Item}
 use Rattle.tib_grammar_file.specs.Faults.{FirstFaultFromStart}
 use Rattle.tib_grammar_file.specs.Reading.{fault_at, start_line, started, with_start}

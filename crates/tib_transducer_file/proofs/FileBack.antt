@@ -9,7 +9,7 @@ use Rattle.tib_lex.specs.Lists.{Along, Each, Has}
 use Rattle.tib_lex.proofs.HasLines.{lines_read}
 use Rattle.tib_lex.proofs.Members.{has_at, at_has, has_either, has_contains}
 use Rattle.tib_tree.specs.Grows.{AddsAll}
-use Rattle.tib_tree.specs.TreeSides.{TreeSides, none, tree, preorder, relabel}
+use Rattle.tib_tree.specs.Trees.{Trees, none, tree, preorder, relabel}
 use Rattle.tib_grammar.specs.Range.{AllBelow}
 use Rattle.tib_grammar.specs.Sides.{Symbol, label as symbol_label, hole, symbol_map}
 use Rattle.tib_grammar.specs.StateName.{IsStateName}
@@ -130,24 +130,24 @@ by_name names s = symbol_map (named_pair (λ q. get_or names q [])) s
 abbrev pair_of : List ℕ → ℕ → Pair (List ℕ)
 pair_of state variable = record { state = state; variable = variable }
 
-symbol_same : (names others labels : List (List ℕ)) (number : ℕ → ℕ) (m : ℕ) (s : Symbol ℕ (Pair ℕ)) (kids : TreeSides (Symbol ℕ (Pair ℕ))) → Renames names others number → FitsSymbol (IsPlainLabel labels) (IsPairPlain (length names) m) s kids → by_name names s ≡ by_name others (symbol_map (named_pair number) s)
+symbol_same : (names others labels : List (List ℕ)) (number : ℕ → ℕ) (m : ℕ) (s : Symbol ℕ (Pair ℕ)) (kids : Trees (Symbol ℕ (Pair ℕ))) → Renames names others number → FitsSymbol (IsPlainLabel labels) (IsPairPlain (length names) m) s kids → by_name names s ≡ by_name others (symbol_map (named_pair number) s)
 symbol_same names others labels number m (symbol_label f) kids r h = refl
 symbol_same names others labels number m (hole x) none r h = ap (λ (t : List ℕ). hole (pair_of t x.variable)) (sym (get_or_from_slice_get others (number x.state) (get_or names x.state []) [] (r.to x.state h.0)))
 symbol_same names others labels number m (hole x) (tree g inner next) r h = absurd h
 
-trees_same : (names others labels : List (List ℕ)) (number : ℕ → ℕ) (m : ℕ) (ts : TreeSides (Symbol ℕ (Pair ℕ))) → Renames names others number → FitsRight (length names) m labels ts → relabel (by_name names) ts ≡ relabel (by_name others) (relabel (symbol_map (named_pair number)) ts)
+trees_same : (names others labels : List (List ℕ)) (number : ℕ → ℕ) (m : ℕ) (ts : Trees (Symbol ℕ (Pair ℕ))) → Renames names others number → FitsRight (length names) m labels ts → relabel (by_name names) ts ≡ relabel (by_name others) (relabel (symbol_map (named_pair number)) ts)
 trees_same names others labels number m none r h = refl
 trees_same names others labels number m (tree s kids rest) r h =
     cc (symbol_same names others labels number m s kids r h.0, trees_same names others labels number m kids r h.1, trees_same names others labels number m rest r h.2)
 
-abbrev rule_by : TransducerRule ℕ → List ℕ → Symbol ℕ (Pair (List ℕ)) → TreeSides (Symbol ℕ (Pair (List ℕ))) → TransducerRule (List ℕ)
+abbrev rule_by : TransducerRule ℕ → List ℕ → Symbol ℕ (Pair (List ℕ)) → Trees (Symbol ℕ (Pair (List ℕ))) → TransducerRule (List ℕ)
 rule_by r state symbol kids = record { state = state; left = r.left; right = record { label = symbol; kids = kids }; cost = r.cost }
 
-by_same : (r : TransducerRule ℕ) (l k : List ℕ) (s t : Symbol ℕ (Pair (List ℕ))) (ts us : TreeSides (Symbol ℕ (Pair (List ℕ)))) → l ≡ k → s ≡ t → ts ≡ us → rule_by r l s ts ≡ rule_by r k t us
+by_same : (r : TransducerRule ℕ) (l k : List ℕ) (s t : Symbol ℕ (Pair (List ℕ))) (ts us : Trees (Symbol ℕ (Pair (List ℕ)))) → l ≡ k → s ≡ t → ts ≡ us → rule_by r l s ts ≡ rule_by r k t us
 by_same r l k s t ts us a b c =
     ap (λ (x : List ℕ). rule_by r x s ts) a
     ∙ ap (λ (x : Symbol ℕ (Pair (List ℕ))). rule_by r k x ts) b
-    ∙ ap (λ (x : TreeSides (Symbol ℕ (Pair (List ℕ)))). rule_by r k t x) c
+    ∙ ap (λ (x : Trees (Symbol ℕ (Pair (List ℕ)))). rule_by r k t x) c
 
 rule_same : (scale : Scale) (names others labels : List (List ℕ)) (number : ℕ → ℕ) (r : TransducerRule ℕ) → Renames names others number → IsGood scale names labels r → named_rule (λ q. get_or names q []) r ≡ named_rule (λ q. get_or others q []) (named_rule number r)
 rule_same scale names others labels number r n g =
@@ -168,7 +168,7 @@ rules_same scale names others labels number [] n g = refl
 rules_same scale names others labels number (r ∷ rules) n g = cc (rule_same scale names others labels number r n g.0, rules_same scale names others labels number rules n g.1)
 
 -- other numbers leave the number of nodes
-nodes_same : {A B : Type 0} (f : A → B) (ts : TreeSides A) → length (preorder (relabel f ts)) ≡ length (preorder ts)
+nodes_same : {A B : Type 0} (f : A → B) (ts : Trees A) → length (preorder (relabel f ts)) ≡ length (preorder ts)
 nodes_same f none = refl
 nodes_same f (tree s kids rest) =
     omega (arith, nodes_same f kids, nodes_same f rest, length-append (preorder (relabel f kids)) (preorder (relabel f rest)), length-append (preorder kids) (preorder rest))

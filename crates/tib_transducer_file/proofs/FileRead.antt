@@ -1,7 +1,7 @@
 -- A rule that stands for a line does so in larger tables.
 use Rattle.std.proofs.Common.{ℕ, List}
 use Rattle.tib_tree.specs.Grows.{Grows}
-use Rattle.tib_tree.specs.TreeSides.{preorder_of}
+use Rattle.tib_tree.specs.Trees.{preorder_of}
 use Rattle.tib_grammar_file.proofs.Alongs.{along_changes}
 use Rattle.tib_transducer.specs.declared.TransducerRule.{TransducerRule}
 use Rattle.tib_transducer_file.specs.Rule.{RuleLine, numbers_in, state_of}

@@ -7,7 +7,7 @@ use Rattle.tib_lex.specs.Lists.{Along, Each}
 use Rattle.tib_lex.proofs.Spelled.{or_false}
 use Rattle.tib_tree.specs.Grows.{AddsAll}
 use Rattle.tib_tree.specs.Machine.{IsTree}
-use Rattle.tib_tree.specs.TreeSides.{preorder_of, most_nodes}
+use Rattle.tib_tree.specs.Trees.{preorder_of, most_nodes}
 use Rattle.tib_grammar.specs.Sides.{Symbol}
 use Rattle.tib_grammar.specs.StateName.{AreStateNames}
 use Rattle.tib_grammar_file.proofs.Alongs.{along_long}

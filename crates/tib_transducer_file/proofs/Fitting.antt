@@ -4,7 +4,7 @@ use Rattle.std.proofs.Common.{◌≡◌, ℕ, ◌+◌, ◌<◌, ◌≤◌, List,
 use Rattle.std.specs.Prelude.{map}
 use Rattle.tib_lex.specs.Lists.{Each}
 use Rattle.tib_lex.proofs.Lists.{append_nil, each_parts}
-use Rattle.tib_tree.specs.TreeSides.{TreeSides, none, tree, only, preorder}
+use Rattle.tib_tree.specs.Trees.{Trees, none, tree, only, preorder}
 use Rattle.tib_grammar.specs.Range.{AllBelow}
 use Rattle.tib_grammar.specs.Sides.{Symbol, Side, label as symbol_label, hole, holes, HolesAreLeaves}
 use Rattle.tib_grammar.specs.StateName.{IsStateName}
@@ -29,7 +29,7 @@ use Rattle.tib_transducer_file.proofs.RuleTokens.{parts_of, FitsRule, line_spell
 use Rattle.tib_transducer_file.proofs.RuleMeaning.{rule_with, rule_meant, states_printed}
 
 module _ {P : Type 0} (IsLabel : ℕ → Type 0) (IsLeaf : P → Type 0) (On : Symbol ℕ P → Type 0) (Q : P → Type 0) (labelled : (f : ℕ) → On (symbol_label f) → IsLabel f) (held : (p : P) → On (hole p) → Q p → IsLeaf p) where
-  fits_of : (ts : TreeSides (Symbol ℕ P)) → HolesAreLeaves ts → Each (λ s. On s.0) (preorder ts) → Each Q (holes ts) → Fits IsLabel IsLeaf ts
+  fits_of : (ts : Trees (Symbol ℕ P)) → HolesAreLeaves ts → Each (λ s. On s.0) (preorder ts) → Each Q (holes ts) → Fits IsLabel IsLeaf ts
   fits_of none h e q = tt
   fits_of (tree (symbol_label f) kids rest) h e q =
       let parts = each_parts (λ (s : Symbol ℕ P × ℕ). On s.0) (preorder kids) (preorder rest) e.1 in
@@ -47,7 +47,7 @@ pairs_below n m [] l a v = tt
 pairs_below n m (x ∷ xs) l a v = ((a.0, v.0, omega (arith, v.0)), pairs_below n m xs l a.1 v.1)
 
 -- a rule whose left side begins with a label
-with_fits : (scale : Scale) (names labels : List (List ℕ)) (state f : ℕ) (kids : TreeSides (Symbol ℕ Variable)) (right : Side ℕ (Pair ℕ)) (cost : ℕ) → (let r : TransducerRule ℕ = rule_with state f kids right cost in IsPrintable scale labels r → IsShaped r → IsWithin (length names) r → EndsInHoles r → FitsRule scale names labels state f kids right cost)
+with_fits : (scale : Scale) (names labels : List (List ℕ)) (state f : ℕ) (kids : Trees (Symbol ℕ Variable)) (right : Side ℕ (Pair ℕ)) (cost : ℕ) → (let r : TransducerRule ℕ = rule_with state f kids right cost in IsPrintable scale labels r → IsShaped r → IsWithin (length names) r → EndsInHoles r → FitsRule scale names labels state f kids right cost)
 with_fits scale names labels state f kids right cost p s w l =
     let alone : holes kids ++ [] ≡ holes kids = append_nil (holes kids) in
     let numbered : AreNumbered 0 (holes kids) = subst (λ (xs : List Variable). AreNumbered 0 xs) alone s.numbered in
@@ -94,7 +94,7 @@ named_states : (names : List (List ℕ)) (xs : List (Pair ℕ)) → map (λ (x :
 named_states names [] = refl
 named_states names (x ∷ xs) = ap (λ (ts : List (List ℕ)). get_or names x.state [] ∷ ts) (named_states names xs)
 
-with_line : (scale : Scale) (names labels : List (List ℕ)) (state f : ℕ) (kids : TreeSides (Symbol ℕ Variable)) (right : Side ℕ (Pair ℕ)) (cost : ℕ) → Each IsStateName names → FitsRule scale names labels state f kids right cost → LineOf scale names labels (rule_with state f kids right cost)
+with_line : (scale : Scale) (names labels : List (List ℕ)) (state f : ℕ) (kids : Trees (Symbol ℕ Variable)) (right : Side ℕ (Pair ℕ)) (cost : ℕ) → Each IsStateName names → FitsRule scale names labels state f kids right cost → LineOf scale names labels (rule_with state f kids right cost)
 with_line scale names labels state f kids right cost e fit = record {
   line = rule_line_of (parts_of scale names labels state f kids right cost) cost;
   spells = line_spelled scale names labels state f kids right cost e fit;

@@ -9,7 +9,7 @@ use Rattle.tib_lex.specs.Laws.{kind_of}
 use Rattle.tib_lex.specs.declared.token.Kind.TheVariants as kinds
 use Rattle.tib_lex.proofs.HasWords.{word_again, black_word}
 use Rattle.tib_lex.proofs.Spelled.{and_true}
-use Rattle.tib_tree.specs.TreeSides.{TreeSides, none, tree}
+use Rattle.tib_tree.specs.Trees.{Trees, none, tree}
 use Rattle.tib_tree.specs.Written.{Written, end, leaf, head, word_for, spell}
 use Rattle.tib_grammar.specs.Sides.{Symbol, label as symbol_label, hole}
 use Rattle.tib_grammar_file.specs.Printed.{space}
@@ -70,12 +70,12 @@ behind_had (suc k) p pieces bytes h = (
 )
 
 -- symbols and nothing below leaves
-abbrev pub FitsSymbol : {P : Type 0} → (ℕ → Type 0) → (P → Type 0) → Symbol ℕ P → TreeSides (Symbol ℕ P) → Type 0
+abbrev pub FitsSymbol : {P : Type 0} → (ℕ → Type 0) → (P → Type 0) → Symbol ℕ P → Trees (Symbol ℕ P) → Type 0
 FitsSymbol IsLabel IsLeaf (symbol_label f) kids = IsLabel f
 FitsSymbol IsLabel IsLeaf (hole p) none = IsLeaf p
 FitsSymbol IsLabel IsLeaf (hole p) (tree s kids rest) = ⊥
 
-abbrev pub Fits : {P : Type 0} → (ℕ → Type 0) → (P → Type 0) → TreeSides (Symbol ℕ P) → Type 0
+abbrev pub Fits : {P : Type 0} → (ℕ → Type 0) → (P → Type 0) → Trees (Symbol ℕ P) → Type 0
 Fits IsLabel IsLeaf none = Unit {0}
 Fits IsLabel IsLeaf (tree s kids rest) = FitsSymbol IsLabel IsLeaf s kids × Fits IsLabel IsLeaf kids × Fits IsLabel IsLeaf rest
 
@@ -89,11 +89,11 @@ in_quotes labels (symbol_label f) = quotes (get_or labels f [])
 in_quotes labels (hole p) = false
 
 -- trees as they are written
-abbrev pub node : {P : Type 0} → Bool → List ℕ → TreeSides (Symbol ℕ P) → Written → Written → Written
+abbrev pub node : {P : Type 0} → Bool → List ℕ → Trees (Symbol ℕ P) → Written → Written → Written
 node quoted text none inner more = leaf quoted text more
 node quoted text (tree s kids rest) inner more = head quoted text inner more
 
-abbrev pub written : {P : Type 0} → (P → List ℕ) → List (List ℕ) → TreeSides (Symbol ℕ P) → Written
+abbrev pub written : {P : Type 0} → (P → List ℕ) → List (List ℕ) → Trees (Symbol ℕ P) → Written
 written show labels none = end
 written show labels (tree s kids rest) = node (in_quotes labels s) (text_of show labels s) kids (written show labels kids) (written show labels rest)
 
@@ -107,12 +107,12 @@ after_of after (symbol_label f) = []
 after_of after (hole p) = after p
 
 -- the tokens of children, with parentheses round them
-abbrev pub group : {P : Type 0} → TreeSides (Symbol ℕ P) → List Piece → List Piece
+abbrev pub group : {P : Type 0} → Trees (Symbol ℕ P) → List Piece → List Piece
 group none inner = []
 group (tree s kids rest) inner = token open_ ∷ (inner ++ token close ∷ [])
 
 -- the tokens of trees after k others
-abbrev pub forest : {P : Type 0} → (P → Piece) → (P → List Piece) → List (List ℕ) → TreeSides (Symbol ℕ P) → ℕ → List Piece
+abbrev pub forest : {P : Type 0} → (P → Piece) → (P → List Piece) → List (List ℕ) → Trees (Symbol ℕ P) → ℕ → List Piece
 forest first after labels none k = []
 forest first after labels (tree s kids rest) k =
     behind k (first_of first labels s) ∷ (after_of after s ++ (group kids (forest first after labels kids 0) ++ forest first after labels rest (suc k)))
@@ -132,20 +132,20 @@ module _ {P : Type 0} (IsLabel : ℕ → Type 0) (IsLeaf : P → Type 0) (show :
   abbrev pub LeafHad : Type 0
   LeafHad = (p : P) (pieces : List Piece) (rest : List ℕ) → IsLeaf p → begins_name rest ≡ false → HasPieces pieces rest → HasPieces (first p ∷ (after p ++ pieces)) (show p ++ rest)
 
-  symbol_had : (s : Symbol ℕ P) (kids : TreeSides (Symbol ℕ P)) (pieces : List Piece) (rest : List ℕ) → LeafHad → FitsSymbol IsLabel IsLeaf s kids → begins_name rest ≡ false → HasPieces pieces rest → HasPieces (first_of first labels s ∷ (after_of after s ++ pieces)) (symbol_text show labels s ++ rest)
+  symbol_had : (s : Symbol ℕ P) (kids : Trees (Symbol ℕ P)) (pieces : List Piece) (rest : List ℕ) → LeafHad → FitsSymbol IsLabel IsLeaf s kids → begins_name rest ≡ false → HasPieces pieces rest → HasPieces (first_of first labels s ∷ (after_of after s ++ pieces)) (symbol_text show labels s ++ rest)
   symbol_had (symbol_label f) kids pieces rest l fit b h = label_had (get_or labels f []) pieces rest b h
   symbol_had (hole p) none pieces rest l fit b h = l p pieces rest fit b h
   symbol_had (hole p) (tree s kids others) pieces rest l fit b h = absurd fit
 
   -- the trees have their tokens, whatever follows them
-  abbrev Had : TreeSides (Symbol ℕ P) → Type 0
+  abbrev Had : Trees (Symbol ℕ P) → Type 0
   Had ts = (k : ℕ) (more : List Piece) (rest : List ℕ) → begins_name rest ≡ false → HasPieces more rest → HasPieces (forest first after labels ts k ++ more) (trees_text (symbol_text show labels) ts k ++ rest)
 
-  no_name_beside : (others : TreeSides (Symbol ℕ P)) (k : ℕ) (rest : List ℕ) → begins_name rest ≡ false → begins_name (trees_text (symbol_text show labels) others (suc k) ++ rest) ≡ false
+  no_name_beside : (others : Trees (Symbol ℕ P)) (k : ℕ) (rest : List ℕ) → begins_name rest ≡ false → begins_name (trees_text (symbol_text show labels) others (suc k) ++ rest) ≡ false
   no_name_beside none k rest b = b
   no_name_beside (tree s kids others) k rest b = refl
 
-  one_had : (s : Symbol ℕ P) (kids others : TreeSides (Symbol ℕ P)) → LeafHad → FitsSymbol IsLabel IsLeaf s kids → Had kids → Had others → Had (tree s kids others)
+  one_had : (s : Symbol ℕ P) (kids others : Trees (Symbol ℕ P)) → LeafHad → FitsSymbol IsLabel IsLeaf s kids → Had kids → Had others → Had (tree s kids others)
   one_had s none others l fit p q = λ k more rest b h.
       let symbol : List ℕ = symbol_text show labels s in
       let bytes : List ℕ = trees_text (symbol_text show labels) others (suc k) in
@@ -158,7 +158,7 @@ module _ {P : Type 0} (IsLabel : ℕ → Type 0) (IsLeaf : P → Type 0) (show :
       subst (λ (x : List ℕ). HasPieces (behind k (first_of first labels s) ∷ ((after_of after s ++ tokens) ++ more)) x) same
       (subst (λ (x : List Piece). HasPieces (behind k (first_of first labels s) ∷ x) (space k ++ (symbol ++ (bytes ++ rest)))) (sym (append_assoc (after_of after s) tokens more)) had)
   one_had s (tree g inner next) others l fit p q = λ k more rest b h.
-      let kids : TreeSides (Symbol ℕ P) = tree g inner next in
+      let kids : Trees (Symbol ℕ P) = tree g inner next in
       let symbol : List ℕ = symbol_text show labels s in
       let below : List ℕ = trees_text (symbol_text show labels) kids 0 in
       let bytes : List ℕ = trees_text (symbol_text show labels) others (suc k) in
@@ -184,7 +184,7 @@ module _ {P : Type 0} (IsLabel : ℕ → Type 0) (IsLeaf : P → Type 0) (show :
       subst (λ (x : List ℕ). HasPieces (behind k (first_of first labels s) ∷ ((after_of after s ++ (group kids below_tokens ++ tokens)) ++ more)) x) same
       (subst (λ (x : List Piece). HasPieces (behind k (first_of first labels s) ∷ x) (space k ++ (symbol ++ group_bytes))) (sym pieces_same) had)
 
-  pub forest_had : (ts : TreeSides (Symbol ℕ P)) → LeafHad → Fits IsLabel IsLeaf ts → Had ts
+  pub forest_had : (ts : Trees (Symbol ℕ P)) → LeafHad → Fits IsLabel IsLeaf ts → Had ts
   forest_had none l f = λ k more rest b h. h
   forest_had (tree s kids others) l f = one_had s kids others l f.0 (forest_had kids l f.1) (forest_had others l f.2)
 
@@ -234,23 +234,23 @@ module _ {P : Type 0} (IsLabel : ℕ → Type 0) (IsLeaf : P → Type 0) (show :
       ((p : P) (more : List Piece) → IsLeaf p → IsPast more → joins false (first p ∷ (after p ++ more)) ≡ name (show p) ∷ joins false more)
       × ((p : P) → is_kind kinds.Open (first p).kind ≡ false)
 
-  abbrev tokens_of : TreeSides (Symbol ℕ P) → ℕ → List Piece
+  abbrev tokens_of : Trees (Symbol ℕ P) → ℕ → List Piece
   tokens_of ts k = forest first after labels ts k
 
-  abbrev words_of : TreeSides (Symbol ℕ P) → List Word
+  abbrev words_of : Trees (Symbol ℕ P) → List Word
   words_of ts = spell (written show labels ts)
 
   -- trees beside others are past those
-  past : (ts : TreeSides (Symbol ℕ P)) (k : ℕ) (more : List Piece) → LeafJoins → IsPast more → IsPast (tokens_of ts (suc k) ++ more)
+  past : (ts : Trees (Symbol ℕ P)) (k : ℕ) (more : List Piece) → LeafJoins → IsPast more → IsPast (tokens_of ts (suc k) ++ more)
   past none k more l h = h
   past (tree (symbol_label f) kids rest) k more l h = (no_quote (is_kind kinds.Quoted (kind_of (label_word (get_or labels f [])))), label_opens (get_or labels f []) (quotes (get_or labels f [])))
   past (tree (hole p) kids rest) k more l h = (no_quote (is_kind kinds.Quoted (first p).kind), l.1 p)
 
   -- what the trees after the first one give
-  abbrev Joins : TreeSides (Symbol ℕ P) → Type 0
+  abbrev Joins : Trees (Symbol ℕ P) → Type 0
   Joins ts = (k : ℕ) (more : List Piece) → IsPast more → joins false (tokens_of ts k ++ more) ≡ words_of ts ++ joins false more
 
-  label_joins : (f : ℕ) (others : TreeSides (Symbol ℕ P)) → LeafJoins → Joins others → Joins (tree (symbol_label f) none others)
+  label_joins : (f : ℕ) (others : Trees (Symbol ℕ P)) → LeafJoins → Joins others → Joins (tree (symbol_label f) none others)
   label_joins f others l q = λ k more h.
       let word : Word = label_word (get_or labels f []) in
       let rest : List Piece = tokens_of others (suc k) ++ more in
@@ -259,7 +259,7 @@ module _ {P : Type 0} (IsLabel : ℕ → Type 0) (IsLeaf : P → Type 0) (show :
       ∙ ap (λ (w : Word). w ∷ joins false rest) (means word)
       ∙ ap (λ (ws : List Word). word ∷ ws) (q (suc k) more h)
 
-  hole_joins : (p : P) (others : TreeSides (Symbol ℕ P)) → LeafJoins → IsLeaf p → Joins others → Joins (tree (hole p) none others)
+  hole_joins : (p : P) (others : Trees (Symbol ℕ P)) → LeafJoins → IsLeaf p → Joins others → Joins (tree (hole p) none others)
   hole_joins p others l fit q = λ k more h.
       let rest : List Piece = tokens_of others (suc k) ++ more in
       ap (λ (x : List Piece). joins false (behind k (first p) ∷ x)) (append_assoc (after p) (tokens_of others (suc k)) more)
@@ -267,9 +267,9 @@ module _ {P : Type 0} (IsLabel : ℕ → Type 0) (IsLeaf : P → Type 0) (show :
       ∙ l.0 p rest fit (past others k more l h)
       ∙ ap (λ (ws : List Word). name (show p) ∷ ws) (q (suc k) more h)
 
-  group_joins : (f : ℕ) (g : Symbol ℕ P) (inner next others : TreeSides (Symbol ℕ P)) → Joins (tree g inner next) → Joins others → Joins (tree (symbol_label f) (tree g inner next) others)
+  group_joins : (f : ℕ) (g : Symbol ℕ P) (inner next others : Trees (Symbol ℕ P)) → Joins (tree g inner next) → Joins others → Joins (tree (symbol_label f) (tree g inner next) others)
   group_joins f g inner next others p q = λ k more h.
-      let kids : TreeSides (Symbol ℕ P) = tree g inner next in
+      let kids : Trees (Symbol ℕ P) = tree g inner next in
       let word : Word = label_word (get_or labels f []) in
       let rest : List Piece = tokens_of others (suc k) ++ more in
       let below : List Piece = tokens_of kids 0 in
@@ -285,7 +285,7 @@ module _ {P : Type 0} (IsLabel : ℕ → Type 0) (IsLeaf : P → Type 0) (show :
       ∙ ap (λ (ws : List Word). word ∷ ws) (other_joins false (token open_) (below ++ closed) refl)
       ∙ ap (λ (ws : List Word). word ∷ (open_ ∷ ws)) (p 0 closed (refl, refl) ∙ ap (λ (ws : List Word). words_of kids ++ ws) last ∙ sym (append_assoc (words_of kids) (close ∷ words_of others) (joins false more)))
 
-  pub forest_joins : (ts : TreeSides (Symbol ℕ P)) → LeafJoins → Fits IsLabel IsLeaf ts → Joins ts
+  pub forest_joins : (ts : Trees (Symbol ℕ P)) → LeafJoins → Fits IsLabel IsLeaf ts → Joins ts
   forest_joins none l f = λ k more h. refl
   forest_joins (tree (symbol_label f) none others) l t = label_joins f others l (forest_joins others l t.2)
   forest_joins (tree (symbol_label f) (tree g inner next) others) l t = group_joins f g inner next others (forest_joins (tree g inner next) l t.1) (forest_joins others l t.2)
@@ -300,26 +300,26 @@ module _ {P : Type 0} (IsLabel : ℕ → Type 0) (IsLeaf : P → Type 0) (show :
   abbrev pub no_more : P → List Piece
   no_more p = []
 
-  abbrev right_tokens : TreeSides (Symbol ℕ P) → ℕ → List Piece
+  abbrev right_tokens : Trees (Symbol ℕ P) → ℕ → List Piece
   right_tokens ts k = forest leaf_token no_more labels ts k
 
-  abbrev right_words : TreeSides (Symbol ℕ P) → List Word
+  abbrev right_words : Trees (Symbol ℕ P) → List Word
   right_words ts = spell (written show labels ts)
 
   behind_means : (k : ℕ) (word : Word) → meaning (behind k (token word)) ≡ word
   behind_means zero word = means word
   behind_means (suc k) word = means word
 
-  abbrev Means : TreeSides (Symbol ℕ P) → Type 0
+  abbrev Means : Trees (Symbol ℕ P) → Type 0
   Means ts = (k : ℕ) (more : List Piece) → meanings (right_tokens ts k ++ more) ≡ right_words ts ++ meanings more
 
-  leaf_means : (word : Word) (others : TreeSides (Symbol ℕ P)) → Means others → (k : ℕ) (more : List Piece) → meanings (behind k (token word) ∷ (right_tokens others (suc k) ++ more)) ≡ word ∷ (right_words others ++ meanings more)
+  leaf_means : (word : Word) (others : Trees (Symbol ℕ P)) → Means others → (k : ℕ) (more : List Piece) → meanings (behind k (token word) ∷ (right_tokens others (suc k) ++ more)) ≡ word ∷ (right_words others ++ meanings more)
   leaf_means word others q k more =
       ap (λ (w : Word). w ∷ meanings (right_tokens others (suc k) ++ more)) (behind_means k word) ∙ ap (λ (ws : List Word). word ∷ ws) (q (suc k) more)
 
-  group_means : (f : ℕ) (g : Symbol ℕ P) (inner next others : TreeSides (Symbol ℕ P)) → Means (tree g inner next) → Means others → Means (tree (symbol_label f) (tree g inner next) others)
+  group_means : (f : ℕ) (g : Symbol ℕ P) (inner next others : Trees (Symbol ℕ P)) → Means (tree g inner next) → Means others → Means (tree (symbol_label f) (tree g inner next) others)
   group_means f g inner next others p q = λ k more.
-      let kids : TreeSides (Symbol ℕ P) = tree g inner next in
+      let kids : Trees (Symbol ℕ P) = tree g inner next in
       let word : Word = label_word (get_or labels f []) in
       let below : List Piece = right_tokens kids 0 in
       let rest : List Piece = right_tokens others (suc k) ++ more in
@@ -329,7 +329,7 @@ module _ {P : Type 0} (IsLabel : ℕ → Type 0) (IsLeaf : P → Type 0) (show :
       ∙ ap (λ (w : Word). w ∷ (open_ ∷ meanings (below ++ (token close ∷ rest)))) (behind_means k word)
       ∙ ap (λ (ws : List Word). word ∷ (open_ ∷ ws)) (p 0 (token close ∷ rest) ∙ ap (λ (ws : List Word). right_words kids ++ (close ∷ ws)) (q (suc k) more) ∙ sym (append_assoc (right_words kids) (close ∷ right_words others) (meanings more)))
 
-  pub forest_means : (ts : TreeSides (Symbol ℕ P)) → Fits IsLabel IsLeaf ts → Means ts
+  pub forest_means : (ts : Trees (Symbol ℕ P)) → Fits IsLabel IsLeaf ts → Means ts
   forest_means none t = λ k more. refl
   forest_means (tree (symbol_label f) none others) t = λ k more. leaf_means (label_word (get_or labels f [])) others (forest_means others t.2) k more
   forest_means (tree (symbol_label f) (tree g inner next) others) t = group_means f g inner next others (forest_means (tree g inner next) t.1) (forest_means others t.2)

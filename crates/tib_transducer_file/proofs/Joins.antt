@@ -11,7 +11,7 @@ use Rattle.tib_lex.proofs.Numbers.{byte_same}
 use Rattle.tib_lex.proofs.Spelled.{and_true}
 use Rattle.tib_transducer_file.specs.Pieces.{pieces_at}
 use Rattle.tib_transducer_file.specs.Forms.{is_kind, takes, joins}
-use Rattle.tib_transducer_file.specs.RootAndWeight.{bytes_at}
+use Rattle.tib_transducer_file.specs.Found.{bytes_at}
 use Rattle.tib_transducer_file.proofs.Slices.{slice_joined}
 
 -- one token for a name and the quoted token after it

@@ -6,7 +6,7 @@ use Rattle.tib_lex.specs.Bytes.{is_name_byte}
 use Rattle.tib_lex.specs.Grammar.{Word, open_, close, name, label, spelling, IsName, begins_name}
 use Rattle.tib_lex.specs.declared.token.Kind.TheVariants as kinds
 use Rattle.tib_tree.specs.Machine.{IsTree}
-use Rattle.tib_tree.specs.TreeSides.{TreeSides, none, tree, count}
+use Rattle.tib_tree.specs.Trees.{Trees, none, tree, count}
 use Rattle.tib_tree.specs.Written.{Written, end, leaf, head, spell, Item, item, items, count as count_written}
 use Rattle.tib_grammar.specs.Sides.{Symbol}
 use Rattle.tib_grammar.specs.StateName.{IsStateName}
@@ -91,37 +91,37 @@ variable_no_open labels n (Some f) = first_no_open (is_plain (get_or labels f []
 abbrev pub IsVariablePlain : List (List ℕ) → Variable → Type 0
 IsVariablePlain labels x = (x.number < 1000000000) × IsPlainAsked labels x.label
 
-abbrev pub FitsLeft : List (List ℕ) → TreeSides (Symbol ℕ Variable) → Type 0
+abbrev pub FitsLeft : List (List ℕ) → Trees (Symbol ℕ Variable) → Type 0
 FitsLeft labels ts = Fits (IsPlainLabel labels) (IsVariablePlain labels) ts
 
-abbrev pub left_tokens : List (List ℕ) → TreeSides (Symbol ℕ Variable) → ℕ → List Piece
+abbrev pub left_tokens : List (List ℕ) → Trees (Symbol ℕ Variable) → ℕ → List Piece
 left_tokens labels ts k = forest (λ x. variable_first labels x.number x.label) (λ x. variable_after labels x.label) labels ts k
 
-abbrev pub left_written : List (List ℕ) → List (List ℕ) → TreeSides (Symbol ℕ Variable) → Written
+abbrev pub left_written : List (List ℕ) → List (List ℕ) → Trees (Symbol ℕ Variable) → Written
 left_written names labels ts = written (variable_text names labels) labels ts
 
-abbrev pub left_bytes : List (List ℕ) → List (List ℕ) → TreeSides (Symbol ℕ Variable) → ℕ → List ℕ
+abbrev pub left_bytes : List (List ℕ) → List (List ℕ) → Trees (Symbol ℕ Variable) → ℕ → List ℕ
 left_bytes names labels ts k = trees_text (symbol_text (variable_text names labels) labels) ts k
 
-left_had : (names labels : List (List ℕ)) (ts : TreeSides (Symbol ℕ Variable)) (k : ℕ) (more : List Piece) (rest : List ℕ) → FitsLeft labels ts → begins_name rest ≡ false → HasPieces more rest → HasPieces (left_tokens labels ts k ++ more) (left_bytes names labels ts k ++ rest)
+left_had : (names labels : List (List ℕ)) (ts : Trees (Symbol ℕ Variable)) (k : ℕ) (more : List Piece) (rest : List ℕ) → FitsLeft labels ts → begins_name rest ≡ false → HasPieces more rest → HasPieces (left_tokens labels ts k ++ more) (left_bytes names labels ts k ++ rest)
 left_had names labels ts k more rest f b h =
     forest_had (IsPlainLabel labels) (IsVariablePlain labels) (variable_text names labels) (λ x. variable_first labels x.number x.label) (λ x. variable_after labels x.label) labels ts
     (λ x pieces bytes fit c had. variable_had labels x.number x.label pieces bytes (is_numeral x.number fit.0) c had) f k more rest b h
 
-left_joins : (names labels : List (List ℕ)) (ts : TreeSides (Symbol ℕ Variable)) (k : ℕ) (more : List Piece) → FitsLeft labels ts → IsPast more → joins false (left_tokens labels ts k ++ more) ≡ spell (left_written names labels ts) ++ joins false more
+left_joins : (names labels : List (List ℕ)) (ts : Trees (Symbol ℕ Variable)) (k : ℕ) (more : List Piece) → FitsLeft labels ts → IsPast more → joins false (left_tokens labels ts k ++ more) ≡ spell (left_written names labels ts) ++ joins false more
 left_joins names labels ts k more f p =
     forest_joins (IsPlainLabel labels) (IsVariablePlain labels) (variable_text names labels) (λ x. variable_first labels x.number x.label) (λ x. variable_after labels x.label) labels ts
     (λ x pieces fit past. variable_joins labels x.number x.label pieces (is_numeral x.number fit.0) past, λ x. variable_no_open labels x.number x.label) f k more p
 
 -- the whole left side: a state, a full stop, a label, and the trees below it
-abbrev pub front_of : List (List ℕ) → List ℕ → List ℕ → TreeSides (Symbol ℕ Variable) → List Piece
+abbrev pub front_of : List (List ℕ) → List ℕ → List ℕ → Trees (Symbol ℕ Variable) → List Piece
 front_of labels q text kids =
     first_by (is_plain text) (q ++ 46 ∷ []) text ∷ (after_by (is_plain text) text ++ group kids (left_tokens labels kids 0))
 
 abbrev pub root_text : List ℕ → List ℕ → List ℕ
 root_text q text = q ++ (46 ∷ label_text text)
 
-abbrev pub left_side : List (List ℕ) → List (List ℕ) → List ℕ → TreeSides (Symbol ℕ Variable) → List ℕ
+abbrev pub left_side : List (List ℕ) → List (List ℕ) → List ℕ → Trees (Symbol ℕ Variable) → List ℕ
 left_side names labels text kids = label_text text ++ (opening (count kids) ++ (left_bytes names labels kids 0 ++ (closing (count kids) ++ [])))
 
 stop_more : (q rest : List ℕ) → (q ++ 46 ∷ []) ++ rest ≡ q ++ (46 ∷ rest)
@@ -133,11 +133,11 @@ stop_name q w = stopped_name q [] w.is_name refl
 stop_plain : (q text : List ℕ) → IsStateName q → is_plain text ≡ true → IsName ((q ++ 46 ∷ []) ++ text)
 stop_plain q text w e = subst IsName (sym (stop_more q text)) (stopped_name q text w.is_name (plain_bytes text e))
 
-group_had : (names labels : List (List ℕ)) (kids : TreeSides (Symbol ℕ Variable)) (more : List Piece) (rest : List ℕ) → FitsLeft labels kids → begins_name rest ≡ false → HasPieces more rest →
+group_had : (names labels : List (List ℕ)) (kids : Trees (Symbol ℕ Variable)) (more : List Piece) (rest : List ℕ) → FitsLeft labels kids → begins_name rest ≡ false → HasPieces more rest →
     HasPieces (group kids (left_tokens labels kids 0) ++ more) ((opening (count kids) ++ (left_bytes names labels kids 0 ++ (closing (count kids) ++ []))) ++ rest)
 group_had names labels none more rest f b h = h
 group_had names labels (tree s inner next) more rest f b h =
-    let kids : TreeSides (Symbol ℕ Variable) = tree s inner next in
+    let kids : Trees (Symbol ℕ Variable) = tree s inner next in
     let below : List ℕ = left_bytes names labels kids 0 in
     let tokens : List Piece = left_tokens labels kids 0 in
     let closed : HasPieces (token close ∷ more) (41 ∷ rest) = first_had close more rest tt tt h in
@@ -146,15 +146,15 @@ group_had names labels (tree s inner next) more rest f b h =
     subst (λ (l : List ℕ). HasPieces (token open_ ∷ ((tokens ++ token close ∷ []) ++ more)) (40 ∷ l)) (sym (append_assoc below (41 ∷ []) rest))
     (subst (λ (l : List Piece). HasPieces (token open_ ∷ l) (40 ∷ (below ++ (41 ∷ rest)))) (sym (append_assoc tokens (token close ∷ []) more)) opened)
 
-group_begins : {P : Type 0} (kids : TreeSides (Symbol ℕ P)) (inner rest : List ℕ) → begins_name rest ≡ false → (count kids ≡ 0 → inner ≡ []) → begins_name ((opening (count kids) ++ (inner ++ (closing (count kids) ++ []))) ++ rest) ≡ false
+group_begins : {P : Type 0} (kids : Trees (Symbol ℕ P)) (inner rest : List ℕ) → begins_name rest ≡ false → (count kids ≡ 0 → inner ≡ []) → begins_name ((opening (count kids) ++ (inner ++ (closing (count kids) ++ []))) ++ rest) ≡ false
 group_begins none inner rest b e = subst (λ (l : List ℕ). begins_name ((l ++ []) ++ rest) ≡ false) (sym (e refl)) b
 group_begins (tree s kids others) inner rest b e = refl
 
-no_trees_text : (names labels : List (List ℕ)) (kids : TreeSides (Symbol ℕ Variable)) → count kids ≡ 0 → left_bytes names labels kids 0 ≡ []
+no_trees_text : (names labels : List (List ℕ)) (kids : Trees (Symbol ℕ Variable)) → count kids ≡ 0 → left_bytes names labels kids 0 ≡ []
 no_trees_text names labels none e = refl
 no_trees_text names labels (tree s kids others) e = absurd (omega (arith, e))
 
-pub front_had : (names labels : List (List ℕ)) (q text : List ℕ) (kids : TreeSides (Symbol ℕ Variable)) (more : List Piece) (rest : List ℕ) → IsStateName q → FitsLeft labels kids → begins_name rest ≡ false → HasPieces more rest →
+pub front_had : (names labels : List (List ℕ)) (q text : List ℕ) (kids : Trees (Symbol ℕ Variable)) (more : List Piece) (rest : List ℕ) → IsStateName q → FitsLeft labels kids → begins_name rest ≡ false → HasPieces more rest →
     HasPieces (front_of labels q text kids ++ more) (q ++ (46 ∷ (left_side names labels text kids ++ rest)))
 front_had names labels q text kids more rest w f b h =
     let inner : List ℕ = opening (count kids) ++ (left_bytes names labels kids 0 ++ (closing (count kids) ++ [])) in
@@ -169,18 +169,18 @@ front_had names labels q text kids more rest w f b h =
     (subst (λ (l : List Piece). HasPieces (first_by (is_plain text) (q ++ 46 ∷ []) text ∷ l) ((q ++ 46 ∷ []) ++ (label_text text ++ (inner ++ rest)))) (sym tokens_same) had)
 
 -- the left side as one tree
-abbrev pub kids_of : {P : Type 0} → TreeSides (Symbol ℕ P) → Written → Option ℕ
+abbrev pub kids_of : {P : Type 0} → Trees (Symbol ℕ P) → Written → Option ℕ
 kids_of none inner = None
 kids_of (tree s kids rest) inner = Some (count_written inner)
 
-abbrev pub root_item : List (List ℕ) → List (List ℕ) → List ℕ → List ℕ → TreeSides (Symbol ℕ Variable) → Item
+abbrev pub root_item : List (List ℕ) → List (List ℕ) → List ℕ → List ℕ → Trees (Symbol ℕ Variable) → Item
 root_item names labels q text kids = item false (root_text q text) (kids_of kids (left_written names labels kids))
 
-group_words : (names labels : List (List ℕ)) (root : List ℕ) (kids : TreeSides (Symbol ℕ Variable)) → FitsLeft labels kids →
+group_words : (names labels : List (List ℕ)) (root : List ℕ) (kids : Trees (Symbol ℕ Variable)) → FitsLeft labels kids →
     (words : List Word) → words ≡ name root ∷ joins false (group kids (left_tokens labels kids 0)) → IsTree words (item false root (kids_of kids (left_written names labels kids)) ∷ items (left_written names labels kids))
 group_words names labels root none f words e = record { tree = leaf false root end; spelled = sym e; one = refl; nodes = refl }
 group_words names labels root (tree s inner next) f words e =
-    let kids : TreeSides (Symbol ℕ Variable) = tree s inner next in
+    let kids : Trees (Symbol ℕ Variable) = tree s inner next in
     let below : Written = left_written names labels kids in
     let words_same : joins false (token open_ ∷ (left_tokens labels kids 0 ++ token close ∷ [])) ≡ open_ ∷ (spell below ++ (close ∷ [])) =
     other_joins false (token open_) (left_tokens labels kids 0 ++ token close ∷ []) refl
@@ -192,12 +192,12 @@ group_words names labels root (tree s inner next) f words e =
       nodes = ap (λ (is : List Item). item false root (Some (count_written below)) ∷ is) (append-nil (items below));
     }
 
-pub front_tree : (names labels : List (List ℕ)) (q text : List ℕ) (kids : TreeSides (Symbol ℕ Variable)) → IsStateName q → FitsLeft labels kids → IsTree (left_words (front_of labels q text kids)) (root_item names labels q text kids ∷ items (left_written names labels kids))
+pub front_tree : (names labels : List (List ℕ)) (q text : List ℕ) (kids : Trees (Symbol ℕ Variable)) → IsStateName q → FitsLeft labels kids → IsTree (left_words (front_of labels q text kids)) (root_item names labels q text kids ∷ items (left_written names labels kids))
 front_tree names labels q text kids w f =
     group_words names labels (root_text q text) kids f (left_words (front_of labels q text kids))
     (by_joins true (is_plain text) (q ++ 46 ∷ []) text (group kids (left_tokens labels kids 0)) (stop_ends q w.no_stop) (group_quote kids)
     ∙ ap (λ (l : List ℕ). name l ∷ joins false (group kids (left_tokens labels kids 0))) (stop_more q (label_text text)))
   where
-    group_quote : (ts : TreeSides (Symbol ℕ Variable)) → leads_quote (group ts (left_tokens labels ts 0)) ≡ false
+    group_quote : (ts : Trees (Symbol ℕ Variable)) → leads_quote (group ts (left_tokens labels ts 0)) ≡ false
     group_quote none = refl
     group_quote (tree s inner next) = refl

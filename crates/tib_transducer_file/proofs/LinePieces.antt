@@ -6,7 +6,7 @@ use Rattle.tib_lex.specs.Grammar.{Word, begins_blank, spelling}
 use Rattle.tib_lex.specs.Bytes.{is_blank}
 use Rattle.tib_lex.specs.Next.{first, next, blanks, span}
 use Rattle.tib_lex.specs.Laws.{kind_of}
-use Rattle.tib_lex.proofs.RootAndWeight.{found}
+use Rattle.tib_lex.proofs.Found.{found}
 use Rattle.tib_lex.specs.declared.token.Token.{Token}
 use Rattle.tib_lex.specs.declared.token.Lexed.{Lexed}
 use Rattle.tib_lex.specs.declared.token.Lexed.TheVariants as lexed

@@ -13,7 +13,7 @@ use Rattle.tib_lex.proofs.Spelled.{or_false}
 use Rattle.tib_tree.specs.Grows.{Adds, AddsAll, AreDistinct}
 use Rattle.tib_lex.specs.Grammar.{Word}
 use Rattle.tib_tree.specs.Machine.{IsTree}
-use Rattle.tib_tree.specs.TreeSides.{TreeSides, none, tree, only, preorder_of}
+use Rattle.tib_tree.specs.Trees.{Trees, none, tree, only, preorder_of}
 use Rattle.tib_tree.specs.Written.{Item}
 use Rattle.tib_tree.proofs.Growing.{distinct_added}
 use Rattle.tib_grammar.specs.Sides.{Symbol, label, hole, holes, HolesAreLeaves}
@@ -106,7 +106,7 @@ module _ (labels others : List (List ℕ)) where
   AgreeLoosely (hole x) (label g) = ⊥
   AgreeLoosely (hole x) (hole y) = AskForOneText labels others x.label y.label
 
-  holes_long : (ts us : TreeSides (Symbol ℕ Variable)) → HaveOneShape AgreeLoosely ts us → length (holes ts) ≡ length (holes us)
+  holes_long : (ts us : Trees (Symbol ℕ Variable)) → HaveOneShape AgreeLoosely ts us → length (holes ts) ≡ length (holes us)
   holes_long none none h = refl
   holes_long none (tree g below more) h = absurd h
   holes_long (tree f kids rest) none h = absurd h
@@ -124,7 +124,7 @@ module _ (labels others : List (List ℕ)) where
 
   -- the numbers agree then too
   pub numbers_agree :
-      (n : ℕ) (ts us : TreeSides (Symbol ℕ Variable)) → HolesAreLeaves ts → HaveOneShape AgreeLoosely ts us → AreNumbered n (holes ts) → AreNumbered n (holes us) →
+      (n : ℕ) (ts us : Trees (Symbol ℕ Variable)) → HolesAreLeaves ts → HaveOneShape AgreeLoosely ts us → AreNumbered n (holes ts) → AreNumbered n (holes us) →
       HaveOneShape (AgreeOnLeft labels others) ts us
   numbers_agree n none none l h a b = tt
   numbers_agree n none (tree g below more) l h a b = absurd h

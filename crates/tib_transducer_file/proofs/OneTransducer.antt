@@ -3,7 +3,7 @@ use Rattle.tib_cost.specs.declared.Scale.{Scale}
 use Rattle.std.proofs.Common.{◌≡◌, ℕ, List, [], ◌∷◌, refl, ap, ◌∙◌, Option}
 use Rattle.std.specs.Prelude.{Some, None}
 use Rattle.tib_lex.specs.Lists.{Along, Distinct}
-use Rattle.tib_tree.specs.TreeSides.{Tree, TreeSides, none, tree, only}
+use Rattle.tib_tree.specs.Trees.{Tree, Trees, none, tree, only}
 use Rattle.tib_grammar.specs.Sides.{Symbol, label, hole}
 use Rattle.tib_grammar_file.specs.ByText.{HaveOneShape, HaveOneText}
 use Rattle.tib_grammar_file.proofs.OneGrammar.{number_same}
@@ -16,14 +16,14 @@ use Rattle.tib_transducer_file.specs.ByText.{AskForOneText, AreOneVariable, Agre
 use Rattle.tib_transducer_file.proofs.OneByText.{one_by_text, pair_same}
 
 -- trees of one shape whose nodes are the same are the same
-pub shape_same : {A : Type 0} (R : A → A → Type 0) → ((x y : A) → R x y → x ≡ y) → (ts us : TreeSides A) → HaveOneShape R ts us → ts ≡ us
+pub shape_same : {A : Type 0} (R : A → A → Type 0) → ((x y : A) → R x y → x ≡ y) → (ts us : Trees A) → HaveOneShape R ts us → ts ≡ us
 shape_same R same none none h = refl
 shape_same R same none (tree g below more) h = absurd h
 shape_same R same (tree f kids rest) none h = absurd h
 shape_same {A} R same (tree f kids rest) (tree g below more) h =
     ap (λ (x : A). tree x kids rest) (same f g h.0)
-    ∙ ap (λ (x : TreeSides A). tree g x rest) (shape_same R same kids below h.1)
-    ∙ ap (λ (x : TreeSides A). tree g below x) (shape_same R same rest more h.2)
+    ∙ ap (λ (x : Trees A). tree g x rest) (shape_same R same kids below h.1)
+    ∙ ap (λ (x : Trees A). tree g below x) (shape_same R same rest more h.2)
 
 -- and so are sides
 pub side_same : {A : Type 0} (s t : Tree A) → only s ≡ only t → s ≡ t
@@ -31,7 +31,7 @@ side_same {A} s t e =
     let o : tree s.label s.kids none ≡ tree t.label t.kids none = e in
     let a : s.label ≡ t.label = cc in
     let b : s.kids ≡ t.kids = cc in
-    ap (λ (l : A). record { label = l; kids = s.kids }) a ∙ ap (λ (k : TreeSides A). record { label = t.label; kids = k }) b
+    ap (λ (l : A). record { label = l; kids = s.kids }) a ∙ ap (λ (k : Trees A). record { label = t.label; kids = k }) b
 
 module _ (labels : List (List ℕ)) (apart : Distinct labels) where
   -- labels with one text are the same

@@ -10,13 +10,13 @@ use Rattle.tib_tree.specs.Written.{Item}
 use Rattle.tib_tree.specs.Machine.{nodes_of}
 use Rattle.tib_tree.specs.Shape.{items_back, PlaceLies}
 use Rattle.tib_tree.specs.declared.shape.Place.{Place}
-use Rattle.tib_grammar_file.specs.RootAndWeight.{text_at, WeightLies}
+use Rattle.tib_grammar_file.specs.Found.{text_at, WeightLies}
 use Rattle.tib_grammar_file.specs.Rule.{front_of, weight_in, with_nodes, Parts as RightParts, parts as right_of}
 use Rattle.tib_grammar_file.proofs.PartsRead.{words_front}
 use Rattle.tib_transducer_file.specs.Pieces.{Piece, piece, meanings, pieces_at}
 use Rattle.tib_transducer_file.specs.Forms.{left_words, is_stray}
 use Rattle.tib_transducer_file.specs.Rule.{Parts, arrow_at, with_right, with_left, right_by, parts_at, parts_by}
-use Rattle.tib_transducer_file.specs.RootAndWeight.{parts_with, FoundIn, LeftIn, IsLeftFound}
+use Rattle.tib_transducer_file.specs.Found.{parts_with, FoundIn, LeftIn, IsLeftFound}
 use Rattle.tib_transducer_file.specs.declared.forms.RootToken.{RootToken}
 use Rattle.tib_transducer_file.proofs.Joins.{no_arrow}
 

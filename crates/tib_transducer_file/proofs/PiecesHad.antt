@@ -3,7 +3,7 @@ use Rattle.std.proofs.Common.{◌≡◌, ℕ, ◌+◌, List, [], ◌∷◌, ◌+
 use Rattle.std.specs.Prelude.{option_map, slice_range, Some, None, not}
 use Rattle.tib_lex.specs.Grammar.{Word, begins_blank, spelling, Begins, HasBadToken}
 use Rattle.tib_lex.specs.Next.{next}
-use Rattle.tib_lex.specs.Laws.{RootAndWeight}
+use Rattle.tib_lex.specs.Laws.{Found}
 use Rattle.tib_lex.specs.Line.{words_of, words_in, words_after, word_of}
 use Rattle.tib_lex.specs.declared.token.Token.{Token}
 use Rattle.tib_lex.specs.declared.token.Lexed.{Lexed}
@@ -12,7 +12,7 @@ use Rattle.tib_lex.proofs.HasWords.{Blanks, split_blanks, Means, means_of, token
 use Rattle.tib_transducer_file.specs.Pieces.{Piece, piece, meaning, meanings, HasPieces, pieces_after, pieces_in, pieces_of}
 
 -- the bytes of the token that was read
-token_bytes : (bytes bl back : List ℕ) (t : Token) (f : RootAndWeight back (length bl) (lexed.Token t)) → bytes ≡ bl ++ back → slice_range bytes t.start t.end ≡ spelling f.word
+token_bytes : (bytes bl back : List ℕ) (t : Token) (f : Found back (length bl) (lexed.Token t)) → bytes ≡ bl ++ back → slice_range bytes t.start t.end ≡ spelling f.word
 token_bytes bytes bl back t f e =
     ap (λ (u : Token). slice_range bytes u.start u.end) (same_token t f.word (length bl) f.is)
     ∙ ap (λ (l : List ℕ). slice_range l (length bl) (length bl + length (spelling f.word))) (behind bytes bl back f.rest f.word e f.begins)

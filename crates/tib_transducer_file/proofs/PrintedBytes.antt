@@ -5,7 +5,7 @@ use Rattle.std.specs.Prelude.{Some, None, cond, decimal as printed}
 use Rattle.tib_lex.specs.Grammar.{label, escape, spelling}
 use Rattle.tib_lex.specs.Lines.{HasNoFeed, HasLines}
 use Rattle.tib_lex.specs.Lists.{Each}
-use Rattle.tib_tree.specs.TreeSides.{TreeSides, none, tree, only, count}
+use Rattle.tib_tree.specs.Trees.{Trees, none, tree, only, count}
 use Rattle.tib_grammar.specs.Sides.{Symbol, Side, label as symbol_label, hole}
 use Rattle.tib_grammar.specs.StateName.{IsStateName}
 use Rattle.tib_grammar_file.specs.Printed.{space, opening, closing, cost_text}
@@ -46,12 +46,12 @@ free_pair : (names labels : List (List ℕ)) (m : ℕ) (x : Pair ℕ) → Each H
 free_pair names labels m x e h = free_append (get_or names x.state []) (46 ∷ (120 ∷ printed x.variable)) (free_at names x.state e) (free_number x.variable h.2)
 
 module _ {P : Type 0} (labels : List (List ℕ)) (IsLeaf : P → Type 0) (show : P → List ℕ) (free : (p : P) → IsLeaf p → HasNoFeed (show p)) where
-  free_symbol : (s : Symbol ℕ P) (kids : TreeSides (Symbol ℕ P)) → FitsSymbol (IsPlainLabel labels) IsLeaf s kids → HasNoFeed (symbol_text show labels s)
+  free_symbol : (s : Symbol ℕ P) (kids : Trees (Symbol ℕ P)) → FitsSymbol (IsPlainLabel labels) IsLeaf s kids → HasNoFeed (symbol_text show labels s)
   free_symbol (symbol_label f) kids h = free_label (get_or labels f []) h.1
   free_symbol (hole p) none h = free p h
   free_symbol (hole p) (tree s inner next) h = absurd h
 
-  pub free_trees : (ts : TreeSides (Symbol ℕ P)) (k : ℕ) → Fits (IsPlainLabel labels) IsLeaf ts → HasNoFeed (trees_text (symbol_text show labels) ts k)
+  pub free_trees : (ts : Trees (Symbol ℕ P)) (k : ℕ) → Fits (IsPlainLabel labels) IsLeaf ts → HasNoFeed (trees_text (symbol_text show labels) ts k)
   free_trees none k h = refl
   free_trees (tree s kids rest) k h =
       let symbol : List ℕ = symbol_text show labels s in

@@ -4,7 +4,7 @@ use Rattle.std.proofs.Common.{◌≡◌, ℕ, ◌<◌, List, [], ◌∷◌, ◌+
 use Rattle.std.specs.Prelude.{Result, map}
 use Rattle.std.specs.List.{All}
 use Rattle.tib_lex.specs.Lists.{Each}
-use Rattle.tib_tree.specs.TreeSides.{Tree, TreeSides, none, tree, only, preorder, preorder_of, count}
+use Rattle.tib_tree.specs.Trees.{Tree, Trees, none, tree, only, preorder, preorder_of, count}
 use Rattle.tib_lex.proofs.Places.{any_default}
 use Rattle.tib_grammar.specs.Sides.{Symbol, label, hole, holes, HolesAreLeaves}
 use Rattle.tib_grammar.specs.Range.{AllBelow}
@@ -40,14 +40,14 @@ states_split [] qs = refl
 states_split ((label f, rank) ∷ ps) qs = states_split ps qs
 states_split ((hole x, rank) ∷ ps) qs = ap (λ (l : List ℕ). x.state ∷ l) (states_split ps qs)
 
-abbrev states_at : TreeSides (Symbol ℕ (Pair ℕ)) → List ℕ
+abbrev states_at : Trees (Symbol ℕ (Pair ℕ)) → List ℕ
 states_at ts = map (λ (x : Pair ℕ). x.state) (holes ts)
 
 map_split : (xs ys : List (Pair ℕ)) → map (λ (x : Pair ℕ). x.state) (xs ++ ys) ≡ map (λ (x : Pair ℕ). x.state) xs ++ map (λ (x : Pair ℕ). x.state) ys
 map_split [] ys = refl
 map_split (x ∷ xs) ys = ap (λ (l : List ℕ). x.state ∷ l) (map_split xs ys)
 
-states_are : (ts : TreeSides (Symbol ℕ (Pair ℕ))) → HolesAreLeaves ts → states (preorder ts) ≡ states_at ts
+states_are : (ts : Trees (Symbol ℕ (Pair ℕ))) → HolesAreLeaves ts → states (preorder ts) ≡ states_at ts
 states_are none l = refl
 states_are (tree (label f) kids rest) l =
     states_split (preorder kids) (preorder rest)

@@ -18,7 +18,7 @@ use Rattle.tib_lex.proofs.Lists.{each_append, each_parts}
 use Rattle.tib_lex.proofs.NoFeeds.{text_plain}
 use Rattle.tib_lex.proofs.Spelled.{and_true}
 use Rattle.tib_tree.specs.Machine.{IsTree}
-use Rattle.tib_tree.specs.TreeSides.{TreeSides, none, tree, only, preorder, preorder_of}
+use Rattle.tib_tree.specs.Trees.{Trees, none, tree, only, preorder, preorder_of}
 use Rattle.tib_tree.specs.Written.{Written, end, leaf, head, word_for, spell, Item, items}
 use Rattle.tib_grammar.specs.Sides.{Symbol, label as symbol_label, hole, holes}
 use Rattle.tib_grammar_file.specs.Printable.{IsPlainCost}
@@ -193,7 +193,7 @@ rights_plain names labels numbers (s ∷ ss) [] h f = absurd h
 rights_plain names labels numbers (s ∷ ss) (i ∷ is) h f = (right_plain names labels numbers s.0 (pair_in i) i.text h.0.0 f.0, rights_plain names labels numbers ss is h.1 f.1)
 
 -- there are no more variables than nodes
-holes_few : {P : Type 0} (ts : TreeSides (Symbol ℕ P)) → length (holes ts) ≤ length (preorder ts)
+holes_few : {P : Type 0} (ts : Trees (Symbol ℕ P)) → length (holes ts) ≤ length (preorder ts)
 holes_few none = omega arith
 holes_few (tree (symbol_label f) kids rest) = omega (arith, holes_few kids, holes_few rest, length-append (holes kids) (holes rest), length-append (preorder kids) (preorder rest))
 holes_few (tree (hole p) kids rest) = omega (arith, holes_few rest, length-append (preorder kids) (preorder rest))

@@ -8,7 +8,7 @@ use Rattle.tib_lex.proofs.Lists.{append_nil, each_parts}
 use Rattle.tib_lex.proofs.Alongs.{along_append}
 use Rattle.tib_lex.proofs.Places.{distinct_at}
 use Rattle.tib_tree.specs.Grows.{Adds, AddsAll}
-use Rattle.tib_tree.specs.TreeSides.{TreeSides, none, tree, only, count, preorder, preorder_of}
+use Rattle.tib_tree.specs.Trees.{Trees, none, tree, only, count, preorder, preorder_of}
 use Rattle.tib_tree.specs.Written.{Item}
 use Rattle.tib_grammar.specs.Sides.{Symbol, Side, label, hole, holes, HolesAreLeaves}
 use Rattle.tib_transducer.specs.Range.{EndsInHoles}
@@ -26,11 +26,11 @@ abbrev IsBare : {P : Type 0} → Symbol ℕ P × ℕ → Type 0
 IsBare (label f, n) = Unit {0}
 IsBare (hole p, n) = n ≡ 0
 
-none_below : {P : Type 0} (p : P) (kids rest : TreeSides (Symbol ℕ P)) → count kids ≡ 0 → HolesAreLeaves rest → HolesAreLeaves (tree (hole p) kids rest)
+none_below : {P : Type 0} (p : P) (kids rest : Trees (Symbol ℕ P)) → count kids ≡ 0 → HolesAreLeaves rest → HolesAreLeaves (tree (hole p) kids rest)
 none_below p none rest e h = h
 none_below p (tree s inner next) rest e h = absurd (omega (arith, e))
 
-bare_leaves : {P : Type 0} (ts : TreeSides (Symbol ℕ P)) → Each IsBare (preorder ts) → HolesAreLeaves ts
+bare_leaves : {P : Type 0} (ts : Trees (Symbol ℕ P)) → Each IsBare (preorder ts) → HolesAreLeaves ts
 bare_leaves none h = tt
 bare_leaves (tree (label f) kids rest) h = let parts = each_parts IsBare (preorder kids) (preorder rest) h.1 in (bare_leaves kids parts.0, bare_leaves rest parts.1)
 bare_leaves (tree (hole p) kids rest) h = let parts = each_parts IsBare (preorder kids) (preorder rest) h.1 in none_below p kids rest h.0 (bare_leaves rest parts.1)
@@ -63,7 +63,7 @@ holes_append [] us = refl
 holes_append ((label f, n) ∷ ss) us = holes_append ss us
 holes_append ((hole p, n) ∷ ss) us = ap (λ ps. p ∷ ps) (holes_append ss us)
 
-holes_of_nodes : {P : Type 0} (ts : TreeSides (Symbol ℕ P)) → HolesAreLeaves ts → holes ts ≡ holes_on (preorder ts)
+holes_of_nodes : {P : Type 0} (ts : Trees (Symbol ℕ P)) → HolesAreLeaves ts → holes ts ≡ holes_on (preorder ts)
 holes_of_nodes none h = refl
 holes_of_nodes (tree (label f) kids rest) h =
     ap (λ ps. ps ++ holes rest) (holes_of_nodes kids h.0) ∙ ap (λ ps. holes_on (preorder kids) ++ ps) (holes_of_nodes rest h.1) ∙ sym (holes_append (preorder kids) (preorder rest))

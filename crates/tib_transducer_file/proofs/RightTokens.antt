@@ -5,7 +5,7 @@ use Rattle.std.specs.Prelude.{not}
 use Rattle.tib_lex.specs.Grammar.{Word, name, spelling, begins_name, begins_blank, Begins, HasWords}
 use Rattle.tib_lex.specs.Laws.{kind_of}
 use Rattle.tib_lex.specs.Lists.{Each}
-use Rattle.tib_tree.specs.TreeSides.{TreeSides, only}
+use Rattle.tib_tree.specs.Trees.{Trees, only}
 use Rattle.tib_tree.specs.Written.{Written, spell}
 use Rattle.tib_grammar.specs.Sides.{Symbol, Side}
 use Rattle.tib_grammar.specs.StateName.{IsStateName}
@@ -48,26 +48,26 @@ words_had (word ∷ words) bytes h =
 abbrev pub IsPairPlain : ℕ → ℕ → Pair ℕ → Type 0
 IsPairPlain n m x = (x.state < n) × (x.variable < m) × (x.variable < 1000000000)
 
-abbrev pub FitsRight : ℕ → ℕ → List (List ℕ) → TreeSides (Symbol ℕ (Pair ℕ)) → Type 0
+abbrev pub FitsRight : ℕ → ℕ → List (List ℕ) → Trees (Symbol ℕ (Pair ℕ)) → Type 0
 FitsRight n m labels ts = Fits (IsPlainLabel labels) (IsPairPlain n m) ts
 
-abbrev pub right_tokens : List (List ℕ) → List (List ℕ) → TreeSides (Symbol ℕ (Pair ℕ)) → ℕ → List Piece
+abbrev pub right_tokens : List (List ℕ) → List (List ℕ) → Trees (Symbol ℕ (Pair ℕ)) → ℕ → List Piece
 right_tokens names labels ts k = forest (λ x. token (name (pair_text names labels x))) (λ x. []) labels ts k
 
-abbrev pub right_written : List (List ℕ) → List (List ℕ) → TreeSides (Symbol ℕ (Pair ℕ)) → Written
+abbrev pub right_written : List (List ℕ) → List (List ℕ) → Trees (Symbol ℕ (Pair ℕ)) → Written
 right_written names labels ts = written (pair_text names labels) labels ts
 
-abbrev pub right_bytes : List (List ℕ) → List (List ℕ) → TreeSides (Symbol ℕ (Pair ℕ)) → ℕ → List ℕ
+abbrev pub right_bytes : List (List ℕ) → List (List ℕ) → Trees (Symbol ℕ (Pair ℕ)) → ℕ → List ℕ
 right_bytes names labels ts k = trees_text (symbol_text (pair_text names labels) labels) ts k
 
-right_had : (names labels : List (List ℕ)) (m : ℕ) (ts : TreeSides (Symbol ℕ (Pair ℕ))) (k : ℕ) (more : List Piece) (rest : List ℕ) → Each IsStateName names → FitsRight (length names) m labels ts → begins_name rest ≡ false → HasPieces more rest →
+right_had : (names labels : List (List ℕ)) (m : ℕ) (ts : Trees (Symbol ℕ (Pair ℕ))) (k : ℕ) (more : List Piece) (rest : List ℕ) → Each IsStateName names → FitsRight (length names) m labels ts → begins_name rest ≡ false → HasPieces more rest →
     HasPieces (right_tokens names labels ts k ++ more) (right_bytes names labels ts k ++ rest)
 right_had names labels m ts k more rest e f b h =
     forest_had (IsPlainLabel labels) (IsPairPlain (length names) m) (pair_text names labels) (λ x. token (name (pair_text names labels x))) (λ x. []) labels ts
     (λ x pieces bytes fit c had. first_had (name (pair_text names labels x)) pieces bytes (pair_name (get_or names x.state []) x.variable (name_at_is names x.state e fit.0).is_name (is_numeral x.variable fit.2)) c had)
     f k more rest b h
 
-right_means : (names labels : List (List ℕ)) (m : ℕ) (ts : TreeSides (Symbol ℕ (Pair ℕ))) (k : ℕ) (more : List Piece) → FitsRight (length names) m labels ts → meanings (right_tokens names labels ts k ++ more) ≡ spell (right_written names labels ts) ++ meanings more
+right_means : (names labels : List (List ℕ)) (m : ℕ) (ts : Trees (Symbol ℕ (Pair ℕ))) (k : ℕ) (more : List Piece) → FitsRight (length names) m labels ts → meanings (right_tokens names labels ts k ++ more) ≡ spell (right_written names labels ts) ++ meanings more
 right_means names labels m ts k more f = forest_means (IsPlainLabel labels) (IsPairPlain (length names) m) (pair_text names labels) labels ts f k more
 
 -- a right side and the weight after it

@@ -8,7 +8,7 @@ use Rattle.tib_lex.specs.Lists.{Along, Each}
 use Rattle.tib_lex.proofs.Lists.{append_nil}
 use Rattle.tib_lex.proofs.Alongs.{along_append}
 use Rattle.tib_tree.specs.Nodes.{rank_of}
-use Rattle.tib_tree.specs.TreeSides.{TreeSides, none, tree, only, count, preorder, preorder_of, relabel}
+use Rattle.tib_tree.specs.Trees.{Trees, none, tree, only, count, preorder, preorder_of, relabel}
 use Rattle.tib_tree.specs.Written.{Item, item, items, count as count_written}
 use Rattle.tib_grammar.specs.Sides.{Symbol, Side, label as symbol_label, hole, holes, symbol_map, side_map}
 use Rattle.tib_grammar.specs.StateName.{IsStateName}
@@ -33,7 +33,7 @@ use Rattle.tib_transducer_file.proofs.RightTokens.{FitsRight, right_written}
 use Rattle.tib_transducer_file.proofs.RuleTokens.{no_variable, no_pair, no_variable_head, no_pair_head, numbers_printed, upto, numbered_upto, pair_is, parts_of, FitsRule}
 
 -- as many trees are written as there are
-pub count_same : {P : Type 0} (show : P → List ℕ) (labels : List (List ℕ)) (ts : TreeSides (Symbol ℕ P)) → count_written (written show labels ts) ≡ count ts
+pub count_same : {P : Type 0} (show : P → List ℕ) (labels : List (List ℕ)) (ts : Trees (Symbol ℕ P)) → count_written (written show labels ts) ≡ count ts
 count_same show labels none = refl
 count_same show labels (tree s none others) = ap suc (count_same show labels others)
 count_same show labels (tree s (tree g inner next) others) = ap suc (count_same show labels others)
@@ -47,14 +47,14 @@ asked_is labels (Some f) h = slice_get-get_or labels f [] h.0
 label_left : (labels : List (List ℕ)) (l : ℕ) (i : Item) → l < length labels → variable_in i ≡ None → i.text ≡ get_or labels l [] → IsLeftSymbol labels (symbol_label l) (variable_in i) i.text
 label_left labels l i h e t = subst (λ (o : Option (ℕ × Option (List ℕ))). IsLeftSymbol labels (symbol_label l) o i.text) (sym e) (slice_get-get_or labels l [] h ∙ ap (λ (x : List ℕ). Some x) (sym t))
 
-pub left_nodes : (names labels : List (List ℕ)) (ts : TreeSides (Symbol ℕ Variable)) → FitsLeft labels ts → Along (IsLeftNode labels) (preorder ts) (items (left_written names labels ts))
+pub left_nodes : (names labels : List (List ℕ)) (ts : Trees (Symbol ℕ Variable)) → FitsLeft labels ts → Along (IsLeftNode labels) (preorder ts) (items (left_written names labels ts))
 left_nodes names labels none f = tt
 left_nodes names labels (tree (symbol_label l) none others) f =
     let text : List ℕ = get_or labels l [] in
     ((label_left labels l (item (quotes text) text None) f.0.0 (no_variable text) refl, refl), left_nodes names labels others f.2)
 left_nodes names labels (tree (symbol_label l) (tree g inner next) others) f =
     let text : List ℕ = get_or labels l [] in
-    let kids : TreeSides (Symbol ℕ Variable) = tree g inner next in
+    let kids : Trees (Symbol ℕ Variable) = tree g inner next in
     let n : ℕ = count_written (left_written names labels kids) in (
       (label_left labels l (item (quotes text) text (Some n)) f.0.0 (no_variable_head (quotes text) text n) refl, sym (count_same (variable_text names labels) labels kids)),
       along_append (IsLeftNode labels) (preorder kids) (preorder others) (items (left_written names labels kids)) (items (left_written names labels others)) (left_nodes names labels (tree g inner next) f.1) (left_nodes names labels others f.2),
@@ -78,22 +78,22 @@ upto_at k zero i h = absurd (omega arith)
 upto_at k (suc n) zero h = ap (λ (m : ℕ). Some m) (omega arith)
 upto_at k (suc n) (suc i) h = upto_at (suc k) n i (omega arith) ∙ ap (λ (m : ℕ). Some m) (omega arith)
 
-count_relabel : {A B : Type 0} (g : A → B) (ts : TreeSides A) → count (relabel g ts) ≡ count ts
+count_relabel : {A B : Type 0} (g : A → B) (ts : Trees A) → count (relabel g ts) ≡ count ts
 count_relabel g none = refl
 count_relabel g (tree s kids others) = ap suc (count_relabel g others)
 
 module _ (names others labels : List (List ℕ)) (number : ℕ → ℕ) (m : ℕ) (numbers : List ℕ) (each : Each IsStateName names) (ren : Renames names others number) (are : numbers ≡ upto 0 m) where
-  abbrev numbered_trees : TreeSides (Symbol ℕ (Pair ℕ)) → TreeSides (Symbol ℕ (Pair ℕ))
+  abbrev numbered_trees : Trees (Symbol ℕ (Pair ℕ)) → Trees (Symbol ℕ (Pair ℕ))
   numbered_trees ts = relabel (symbol_map (named_pair number)) ts
 
-  pub right_nodes : (ts : TreeSides (Symbol ℕ (Pair ℕ))) → FitsRight (length names) m labels ts → Along (IsRightNode others labels numbers) (preorder (numbered_trees ts)) (items (right_written names labels ts))
+  pub right_nodes : (ts : Trees (Symbol ℕ (Pair ℕ))) → FitsRight (length names) m labels ts → Along (IsRightNode others labels numbers) (preorder (numbered_trees ts)) (items (right_written names labels ts))
   right_nodes none f = tt
   right_nodes (tree (symbol_label l) none rest) f =
       let text : List ℕ = get_or labels l [] in
       ((label_right others labels numbers l (item (quotes text) text None) f.0.0 (no_pair text) refl, refl), right_nodes rest f.2)
   right_nodes (tree (symbol_label l) (tree g inner next) rest) f =
       let text : List ℕ = get_or labels l [] in
-      let kids : TreeSides (Symbol ℕ (Pair ℕ)) = tree g inner next in
+      let kids : Trees (Symbol ℕ (Pair ℕ)) = tree g inner next in
       let n : ℕ = count_written (right_written names labels kids) in (
         (label_right others labels numbers l (item (quotes text) text (Some n)) f.0.0 (no_pair_head (quotes text) text n) refl, count_relabel (symbol_map (named_pair number)) kids ∙ sym (count_same (pair_text names labels) labels kids)),
         along_append (IsRightNode others labels numbers) (preorder (numbered_trees kids)) (preorder (numbered_trees rest)) (items (right_written names labels kids)) (items (right_written names labels rest)) (right_nodes (tree g inner next) f.1) (right_nodes rest f.2),
@@ -109,17 +109,17 @@ module _ (names others labels : List (List ℕ)) (number : ℕ → ℕ) (m : ℕ
   right_nodes (tree (hole x) (tree g inner next) rest) f = absurd f.0
 
 -- a rule whose left side begins with a label
-abbrev pub rule_with : ℕ → ℕ → TreeSides (Symbol ℕ Variable) → Side ℕ (Pair ℕ) → ℕ → TransducerRule ℕ
+abbrev pub rule_with : ℕ → ℕ → Trees (Symbol ℕ Variable) → Side ℕ (Pair ℕ) → ℕ → TransducerRule ℕ
 rule_with state f kids right cost = record { state = state; left = record { label = symbol_label f; kids = kids }; right = right; cost = cost }
 
-rank_written : (names labels : List (List ℕ)) (kids : TreeSides (Symbol ℕ Variable)) → count kids ≡ rank_of (kids_of kids (left_written names labels kids))
+rank_written : (names labels : List (List ℕ)) (kids : Trees (Symbol ℕ Variable)) → count kids ≡ rank_of (kids_of kids (left_written names labels kids))
 rank_written names labels none = refl
 rank_written names labels (tree s inner next) = sym (count_same (variable_text names labels) labels (tree s inner next))
 
-holes_alone : (f : ℕ) (kids : TreeSides (Symbol ℕ Variable)) → holes (tree (symbol_label f) kids none) ≡ holes kids
+holes_alone : (f : ℕ) (kids : Trees (Symbol ℕ Variable)) → holes (tree (symbol_label f) kids none) ≡ holes kids
 holes_alone f kids = append_nil (holes kids)
 
-pub rule_meant : (scale : Scale) (names others labels : List (List ℕ)) (number : ℕ → ℕ) (state f : ℕ) (kids : TreeSides (Symbol ℕ Variable)) (right : Side ℕ (Pair ℕ)) (cost : ℕ) → Each IsStateName names → Renames names others number → FitsRule scale names labels state f kids right cost →
+pub rule_meant : (scale : Scale) (names others labels : List (List ℕ)) (number : ℕ → ℕ) (state f : ℕ) (kids : Trees (Symbol ℕ Variable)) (right : Side ℕ (Pair ℕ)) (cost : ℕ) → Each IsStateName names → Renames names others number → FitsRule scale names labels state f kids right cost →
     IsRule others labels (named_rule number (rule_with state f kids right cost)) (rule_line_of (parts_of scale names labels state f kids right cost) cost)
 rule_meant scale names others labels number state f kids right cost e n r =
     let q : List ℕ = get_or names state [] in
@@ -140,13 +140,13 @@ rule_meant scale names others labels number state f kids right cost e n r =
     append_nil_pairs s = ap (λ (ns : List (Symbol ℕ (Pair ℕ) × ℕ)). (symbol_map (named_pair number) s.label, count (relabel (symbol_map (named_pair number)) s.kids)) ∷ ns) (append_nil (preorder (relabel (symbol_map (named_pair number)) s.kids)))
 
 -- the states of a right side, by their names
-pub states_printed : (names labels : List (List ℕ)) (m : ℕ) (ts : TreeSides (Symbol ℕ (Pair ℕ))) → Each IsStateName names → FitsRight (length names) m labels ts → states_in (items (right_written names labels ts)) ≡ map (λ x. get_or names x.state []) (holes ts)
+pub states_printed : (names labels : List (List ℕ)) (m : ℕ) (ts : Trees (Symbol ℕ (Pair ℕ))) → Each IsStateName names → FitsRight (length names) m labels ts → states_in (items (right_written names labels ts)) ≡ map (λ x. get_or names x.state []) (holes ts)
 states_printed names labels m none e f = refl
 states_printed names labels m (tree (symbol_label l) none others) e f =
     let none_here = no_pair (get_or labels l []) in
     rw none_here (states_printed names labels m others e f.2)
 states_printed names labels m (tree (symbol_label l) (tree g inner next) others) e f =
-    let kids : TreeSides (Symbol ℕ (Pair ℕ)) = tree g inner next in
+    let kids : Trees (Symbol ℕ (Pair ℕ)) = tree g inner next in
     let none_here = no_pair_head (quotes (get_or labels l [])) (get_or labels l []) (count_written (right_written names labels kids)) in
     rw none_here (states_append (items (right_written names labels kids)) (items (right_written names labels others))
     ∙ ap (λ (ss : List (List ℕ)). ss ++ states_in (items (right_written names labels others))) (states_printed names labels m (tree g inner next) e f.1)

@@ -8,7 +8,7 @@ use Rattle.std.proofs.lemmas.List.Folds.{list_any-append}
 use Rattle.tib_lex.specs.Grammar.{arrow}
 use Rattle.tib_lex.specs.Lists.{Each}
 use Rattle.tib_lex.proofs.Booleans.{and-false}
-use Rattle.tib_tree.specs.TreeSides.{TreeSides, none, tree, only}
+use Rattle.tib_tree.specs.Trees.{Trees, none, tree, only}
 use Rattle.tib_tree.specs.Written.{spell, Item, item, items, count}
 use Rattle.tib_grammar.specs.Sides.{Symbol, Side, label as symbol_label, hole, holes}
 use Rattle.tib_grammar.specs.StateName.{IsStateName}
@@ -59,16 +59,16 @@ no_pair_head b text n = ap pair_if (head_leaf b text n)
 
 -- the numbers of the variables of a left side
 
-abbrev pub numbers_of : TreeSides (Symbol ℕ Variable) → List ℕ
+abbrev pub numbers_of : Trees (Symbol ℕ Variable) → List ℕ
 numbers_of ts = map (λ x. x.number) (holes ts)
 
-pub numbers_printed : (names labels : List (List ℕ)) (ts : TreeSides (Symbol ℕ Variable)) → FitsLeft labels ts → numbers_in (items (left_written names labels ts)) ≡ numbers_of ts
+pub numbers_printed : (names labels : List (List ℕ)) (ts : Trees (Symbol ℕ Variable)) → FitsLeft labels ts → numbers_in (items (left_written names labels ts)) ≡ numbers_of ts
 numbers_printed names labels none f = refl
 numbers_printed names labels (tree (symbol_label l) none others) f =
     let e = no_variable (get_or labels l []) in
     rw e (numbers_printed names labels others f.2)
 numbers_printed names labels (tree (symbol_label l) (tree g inner next) others) f =
-    let kids : TreeSides (Symbol ℕ Variable) = tree g inner next in
+    let kids : Trees (Symbol ℕ Variable) = tree g inner next in
     let e = no_variable_head (quotes (get_or labels l [])) (get_or labels l []) (count (left_written names labels kids)) in
     rw e (numbers_append (items (left_written names labels kids)) (items (left_written names labels others))
     ∙ ap (λ (ns : List ℕ). ns ++ numbers_in (items (left_written names labels others))) (numbers_printed names labels (tree g inner next) f.1)
@@ -129,45 +129,45 @@ none_next f i is a b = rw a b
 
 -- what fails for an item that is neither a pair nor a variable, and for pairs, fails for all
 module _ (names labels : List (List ℕ)) (m : ℕ) (each : Each IsStateName names) where
-  abbrev right_items : TreeSides (Symbol ℕ (Pair ℕ)) → List Item
+  abbrev right_items : Trees (Symbol ℕ (Pair ℕ)) → List Item
   right_items ts = items (right_written names labels ts)
 
   pub pair_is : (x : Pair ℕ) → x.state < length names → x.variable < 1000000000 → pair_of (pair_text names labels x) ≡ Some (get_or names x.state [], x.variable)
   pair_is x h k = pair_again (get_or names x.state []) x.variable (name_at_is names x.state each h) (is_numeral x.variable k)
 
-  no_item : (f : Item → Bool) → ((i : Item) → pair_in i ≡ None → variable_in i ≡ None → f i ≡ false) → ((x : Pair ℕ) → x.state < length names → x.variable < m → x.variable < 1000000000 → f (item false (pair_text names labels x) None) ≡ false) → (ts : TreeSides (Symbol ℕ (Pair ℕ))) → FitsRight (length names) m labels ts → list_any f (right_items ts) ≡ false
+  no_item : (f : Item → Bool) → ((i : Item) → pair_in i ≡ None → variable_in i ≡ None → f i ≡ false) → ((x : Pair ℕ) → x.state < length names → x.variable < m → x.variable < 1000000000 → f (item false (pair_text names labels x) None) ≡ false) → (ts : Trees (Symbol ℕ (Pair ℕ))) → FitsRight (length names) m labels ts → list_any f (right_items ts) ≡ false
   no_item f labelled paired none h = refl
   no_item f labelled paired (tree (symbol_label l) none others) h =
       let text : List ℕ = get_or labels l [] in
       none_next f (item (quotes text) text None) (right_items others) (labelled (item (quotes text) text None) (no_pair text) (no_variable text)) (no_item f labelled paired others h.2)
   no_item f labelled paired (tree (symbol_label l) (tree g inner next) others) h =
       let text : List ℕ = get_or labels l [] in
-      let kids : TreeSides (Symbol ℕ (Pair ℕ)) = tree g inner next in
+      let kids : Trees (Symbol ℕ (Pair ℕ)) = tree g inner next in
       let n : ℕ = count (right_written names labels kids) in
       none_of f (item (quotes text) text (Some n)) (right_items kids) (right_items others) (labelled (item (quotes text) text (Some n)) (no_pair_head (quotes text) text n) (no_variable_head (quotes text) text n)) (no_item f labelled paired (tree g inner next) h.1) (no_item f labelled paired others h.2)
   no_item f labelled paired (tree (hole x) none others) h =
       none_next f (item false (pair_text names labels x) None) (right_items others) (paired x h.0.0 h.0.1 h.0.2) (no_item f labelled paired others h.2)
   no_item f labelled paired (tree (hole x) (tree g inner next) others) h = absurd h.0
 
-  pub no_stray : (ts : TreeSides (Symbol ℕ (Pair ℕ))) → FitsRight (length names) m labels ts → list_any is_stray (right_items ts) ≡ false
+  pub no_stray : (ts : Trees (Symbol ℕ (Pair ℕ))) → FitsRight (length names) m labels ts → list_any is_stray (right_items ts) ≡ false
   no_stray ts h = no_item is_stray (λ i a b. rw (a, b) refl) (λ x s v few. let e = pair_is x s few in rw e refl) ts h
 
-  pub no_unknown : (numbers : List ℕ) → numbers ≡ upto 0 m → (ts : TreeSides (Symbol ℕ (Pair ℕ))) → FitsRight (length names) m labels ts → list_any (λ i. is_unknown numbers (pair_in i)) (right_items ts) ≡ false
+  pub no_unknown : (numbers : List ℕ) → numbers ≡ upto 0 m → (ts : Trees (Symbol ℕ (Pair ℕ))) → FitsRight (length names) m labels ts → list_any (λ i. is_unknown numbers (pair_in i)) (right_items ts) ≡ false
   no_unknown numbers are ts h =
       no_item (λ i. is_unknown numbers (pair_in i)) (λ i a b. rw a refl)
       (λ x s v few. let e = pair_is x s few in let known : list_any (nat_eq x.variable) numbers ≡ true = ap (list_any (nat_eq x.variable)) are ∙ upto_has x.variable m v in rw e (rw known refl)) ts h
 
 -- the line of a rule with the root's label, without its line feed
-abbrev pub line_of : Scale → List (List ℕ) → List (List ℕ) → ℕ → ℕ → TreeSides (Symbol ℕ Variable) → Side ℕ (Pair ℕ) → ℕ → List ℕ
+abbrev pub line_of : Scale → List (List ℕ) → List (List ℕ) → ℕ → ℕ → Trees (Symbol ℕ Variable) → Side ℕ (Pair ℕ) → ℕ → List ℕ
 line_of scale names labels state f kids right cost =
     get_or names state [] ++ (46 ∷ (left_side names labels (get_or labels f []) kids ++ (32 ∷ (45 ∷ (62 ∷ (32 ∷ (side_text (pair_text names labels) labels right ++ cost_text scale cost)))))))
 
-abbrev pub parts_of : Scale → List (List ℕ) → List (List ℕ) → ℕ → ℕ → TreeSides (Symbol ℕ Variable) → Side ℕ (Pair ℕ) → ℕ → Parts
+abbrev pub parts_of : Scale → List (List ℕ) → List (List ℕ) → ℕ → ℕ → Trees (Symbol ℕ Variable) → Side ℕ (Pair ℕ) → ℕ → Parts
 parts_of scale names labels state f kids right cost =
     parts (root_item names labels (get_or names state []) (get_or labels f []) kids) (items (left_written names labels kids)) (items (right_written names labels (only right))) (weight_of scale cost)
 
 -- what a rule must be to be printed
-pub record FitsRule (scale : Scale) (names labels : List (List ℕ)) (state f : ℕ) (kids : TreeSides (Symbol ℕ Variable)) (right : Side ℕ (Pair ℕ)) (cost : ℕ) : Type 0 where
+pub record FitsRule (scale : Scale) (names labels : List (List ℕ)) (state f : ℕ) (kids : Trees (Symbol ℕ Variable)) (right : Side ℕ (Pair ℕ)) (cost : ℕ) : Type 0 where
   pub state_is : state < length names
   pub label_is : f < length labels
   pub left : FitsLeft labels kids
@@ -176,11 +176,11 @@ pub record FitsRule (scale : Scale) (names labels : List (List ℕ)) (state f : 
   pub cost_is : IsPlainCost scale cost
 
 -- one tree that is written
-written_one : {P : Type 0} (show : P → List ℕ) (labels : List (List ℕ)) (s : Symbol ℕ P) (kids : TreeSides (Symbol ℕ P)) → count (written show labels (tree s kids none)) ≡ 1
+written_one : {P : Type 0} (show : P → List ℕ) (labels : List (List ℕ)) (s : Symbol ℕ P) (kids : Trees (Symbol ℕ P)) → count (written show labels (tree s kids none)) ≡ 1
 written_one show labels s none = refl
 written_one show labels s (tree g inner next) = refl
 
-pub line_parts : (scale : Scale) (names labels : List (List ℕ)) (state f : ℕ) (kids : TreeSides (Symbol ℕ Variable)) (right : Side ℕ (Pair ℕ)) (cost : ℕ) → Each IsStateName names → FitsRule scale names labels state f kids right cost →
+pub line_parts : (scale : Scale) (names labels : List (List ℕ)) (state f : ℕ) (kids : Trees (Symbol ℕ Variable)) (right : Side ℕ (Pair ℕ)) (cost : ℕ) → Each IsStateName names → FitsRule scale names labels state f kids right cost →
     HasParts (line_of scale names labels state f kids right cost) (parts_of scale names labels state f kids right cost)
 line_parts scale names labels state f kids right cost e r =
     let q : List ℕ = get_or names state [] in
@@ -207,7 +207,7 @@ line_parts scale names labels state f kids right cost e r =
       };
     }
 
-pub line_spelled : (scale : Scale) (names labels : List (List ℕ)) (state f : ℕ) (kids : TreeSides (Symbol ℕ Variable)) (right : Side ℕ (Pair ℕ)) (cost : ℕ) → Each IsStateName names → FitsRule scale names labels state f kids right cost →
+pub line_spelled : (scale : Scale) (names labels : List (List ℕ)) (state f : ℕ) (kids : Trees (Symbol ℕ Variable)) (right : Side ℕ (Pair ℕ)) (cost : ℕ) → Each IsStateName names → FitsRule scale names labels state f kids right cost →
     SpellsLine scale (line_of scale names labels state f kids right cost) (rule_line_of (parts_of scale names labels state f kids right cost) cost)
 line_spelled scale names labels state f kids right cost e r =
     let q : List ℕ = get_or names state [] in

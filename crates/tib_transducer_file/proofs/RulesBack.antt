@@ -3,7 +3,7 @@ use Rattle.tib_cost.specs.declared.Scale.{Scale}
 use Rattle.std.proofs.Common.{◌≡◌, ℕ, List, [], ◌∷◌, refl, ap, ◌∙◌, subst}
 use Rattle.std.specs.Prelude.{map}
 use Rattle.tib_lex.specs.Lists.{Each}
-use Rattle.tib_tree.specs.TreeSides.{TreeSides, none, tree, relabel}
+use Rattle.tib_tree.specs.Trees.{Trees, none, tree, relabel}
 use Rattle.tib_grammar.specs.Sides.{Symbol, label as symbol_label, hole, symbol_map}
 use Rattle.tib_grammar.specs.StateName.{IsStateName}
 use Rattle.tib_grammar_file.proofs.PrintedSorted.{names_own}
@@ -22,14 +22,14 @@ symbol_own : (s : Symbol ℕ (Pair ℕ)) → symbol_map (named_pair (λ (q : ℕ
 symbol_own (symbol_label f) = refl
 symbol_own (hole x) = refl
 
-trees_own : (ts : TreeSides (Symbol ℕ (Pair ℕ))) → relabel (symbol_map (named_pair (λ (q : ℕ). q))) ts ≡ ts
+trees_own : (ts : Trees (Symbol ℕ (Pair ℕ))) → relabel (symbol_map (named_pair (λ (q : ℕ). q))) ts ≡ ts
 trees_own none = refl
 trees_own (tree s kids rest) = cc (symbol_own s, trees_own kids, trees_own rest)
 
 rule_own : (r : TransducerRule ℕ) → named_rule (λ (q : ℕ). q) r ≡ r
 rule_own r =
     ap (λ (s : Symbol ℕ (Pair ℕ)). record { state = r.state; left = r.left; right = record { label = s; kids = relabel (symbol_map (named_pair (λ (q : ℕ). q))) r.right.kids }; cost = r.cost }) (symbol_own r.right.label)
-    ∙ ap (λ (ts : TreeSides (Symbol ℕ (Pair ℕ))). record { state = r.state; left = r.left; right = record { label = r.right.label; kids = ts }; cost = r.cost }) (trees_own r.right.kids)
+    ∙ ap (λ (ts : Trees (Symbol ℕ (Pair ℕ))). record { state = r.state; left = r.left; right = record { label = r.right.label; kids = ts }; cost = r.cost }) (trees_own r.right.kids)
 
 pub rules_own : (rules : List (TransducerRule ℕ)) → map (named_rule (λ (q : ℕ). q)) rules ≡ rules
 rules_own [] = refl

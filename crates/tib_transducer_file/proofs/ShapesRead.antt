@@ -4,7 +4,7 @@ use Rattle.std.specs.Prelude.{Some, None, slice_get}
 use Rattle.std.proofs.lemmas.Option.{slice_get_within}
 use Rattle.tib_lex.specs.Lists.{Along}
 use Rattle.tib_tree.specs.Nodes.{rank_of}
-use Rattle.tib_tree.specs.TreeSides.{only, preorder_of}
+use Rattle.tib_tree.specs.Trees.{only, preorder_of}
 use Rattle.tib_tree.specs.Written.{Item}
 use Rattle.tib_grammar.specs.Sides.{Symbol, label, hole, Side, HolesAreLeaves}
 use Rattle.tib_grammar.specs.Items.{pair_of, pairs_of, holes_in}

@@ -6,7 +6,7 @@ use Rattle.tib_lex.specs.Lists.{Along}
 use Rattle.tib_lex.specs.declared.token.Kind.TheVariants as token_kinds
 use Rattle.tib_tree.specs.Grows.{Grows}
 use Rattle.tib_tree.specs.Nodes.{rank_of}
-use Rattle.tib_tree.specs.TreeSides.{TreeSides, none, tree, preorder, preorder_of, count as count_trees, IsOneTree, IsOneTree-preorder_of, most_nodes}
+use Rattle.tib_tree.specs.Trees.{Trees, none, tree, preorder, preorder_of, count as count_trees, IsOneTree, IsOneTree-preorder_of, most_nodes}
 use Rattle.tib_tree.specs.Written.{Written, Item, end, leaf, head, items, count}
 use Rattle.tib_tree.specs.Shape.{items_back, item_at}
 use Rattle.tib_tree.specs.declared.shape.Place.{Place}
@@ -22,7 +22,7 @@ use Rattle.tib_transducer.specs.Rules.{variables_of}
 use Rattle.tib_transducer.specs.declared.Variable.{Variable}
 use Rattle.tib_transducer.specs.declared.Pair.{Pair}
 use Rattle.tib_transducer_file.specs.Forms.{behind_stop, written_label}
-use Rattle.tib_transducer_file.specs.RootAndWeight.{bytes_at, parts_with}
+use Rattle.tib_transducer_file.specs.Found.{bytes_at, parts_with}
 use Rattle.tib_transducer_file.specs.Value.{IsRootItem, IsLeftNode, IsLeftSide, IsRightNode}
 use Rattle.tib_transducer_file.specs.Sides.{PushesLeft}
 use Rattle.tib_transducer_file.specs.Built.{AreOneTree}
@@ -37,7 +37,7 @@ abbrev pub HasRank : {A : Type 0} → A × ℕ → Item → Type 0
 HasRank x i = x.1 ≡ rank_of i.kids
 
 record Ranked {A : Type 0} (xs : List (A × ℕ)) (f : Written) : Type 0 where
-  pub trees : TreeSides A
+  pub trees : Trees A
   pub order : preorder trees ≡ xs
   pub many : count_trees trees ≡ count f
 

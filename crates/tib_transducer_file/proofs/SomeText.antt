@@ -12,7 +12,7 @@ use Rattle.tib_lex.proofs.Members.{has_left, has_right}
 use Rattle.tib_lex.proofs.Spelled.{or_false}
 use Rattle.tib_tree.specs.Machine.{IsTree}
 use Rattle.tib_tree.specs.Nodes.{rank_of}
-use Rattle.tib_tree.specs.TreeSides.{preorder_of, parse, first_of, preorder-first, IsOneTree}
+use Rattle.tib_tree.specs.Trees.{preorder_of, parse, first_of, preorder-first, IsOneTree}
 use Rattle.tib_tree.specs.Written.{Item}
 use Rattle.tib_grammar.specs.Sides.{Symbol, label, hole, Side}
 use Rattle.tib_grammar.specs.Items.{pairs_of, holes_in}

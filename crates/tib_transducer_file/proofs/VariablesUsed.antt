@@ -11,7 +11,7 @@ use Rattle.tib_tree.specs.declared.shape.Place.{Place}
 use Rattle.tib_tree.proofs.NodesRead.{back_more}
 use Rattle.tib_transducer_file.specs.Forms.{variable_in}
 use Rattle.tib_transducer_file.specs.Rule.{number_before, numbers_in, repeats}
-use Rattle.tib_transducer_file.specs.RootAndWeight.{IsRootAt, AreNumbers}
+use Rattle.tib_transducer_file.specs.Found.{IsRootAt, AreNumbers}
 use Rattle.tib_transducer_file.specs.declared.forms.RootToken.{RootToken}
 
 pub numbers_append : (xs ys : List Item) → numbers_in (xs ++ ys) ≡ numbers_in xs ++ numbers_in ys

@@ -5,7 +5,7 @@ use Rattle.std.proofs.Common.{get_or, suc}
 use Rattle.tib_lex.specs.Lines.{HasNoFeed}
 use Rattle.tib_lex.specs.Lists.{Has, Each}
 use Rattle.tib_lex.specs.declared.fault.FileFault.{FileFault}
-use Rattle.tib_tree.specs.TreeSides.{preorder_of}
+use Rattle.tib_tree.specs.Trees.{preorder_of}
 use Rattle.tib_grammar.specs.Sides.{Symbol, label, hole, side_map}
 use Rattle.tib_grammar.specs.StateName.{AreStateNames}
 use Rattle.tib_grammar_file.specs.Printable.{IsPlainCost}

@@ -1,7 +1,7 @@
 -- Transducers that agree by the texts of their labels, each over a table of its own.
 use Rattle.std.specs.Prelude.{◌≡◌, ℕ, List, Option, Some, None}
 use Rattle.tib_lex.specs.Lists.{Along}
-use Rattle.tib_tree.specs.TreeSides.{only}
+use Rattle.tib_tree.specs.Trees.{only}
 use Rattle.tib_grammar.specs.Sides.{Symbol, label, hole}
 use Rattle.tib_grammar_file.specs.ByText.{HaveOneShape, HaveOneText}
 use Rattle.tib_transducer.specs.TransducerOf.{TransducerOf}

@@ -9,14 +9,14 @@ use Rattle.tib_lex.specs.declared.fault.LineError.TheVariants as errors
 use Rattle.tib_tree.specs.Written.{Item, item}
 use Rattle.tib_tree.specs.Shape.{items_back, PlaceLies}
 use Rattle.tib_tree.specs.declared.shape.Place.{Place}
-use Rattle.tib_grammar_file.specs.RootAndWeight.{text_at, WeightLies}
+use Rattle.tib_grammar_file.specs.Found.{text_at, WeightLies}
 use Rattle.tib_grammar_file.specs.Rule.{Parts as RightParts}
 use Rattle.tib_transducer_file.specs.Forms.{before_stop, behind_stop, is_some, variable_of}
 use Rattle.tib_transducer_file.specs.Rule.{Parts, parts, has_state, is_leaf, is_lone, is_twice, has_unknown, numbers_in, repeats, with_left, checked}
 use Rattle.tib_transducer_file.specs.declared.forms.VariableToken.{VariableToken}
 use Rattle.tib_transducer_file.specs.declared.forms.PairToken.{PairToken}
 use Rattle.tib_transducer_file.specs.declared.forms.RootToken.{RootToken}
-use Rattle.tib_transducer_file.specs.declared.parts.RootAndWeight.{RootAndWeight}
+use Rattle.tib_transducer_file.specs.declared.parts.Found.{Found}
 
 -- the bytes of a token
 abbrev pub bytes_at : List ℕ → Token → List ℕ
@@ -44,12 +44,12 @@ abbrev pub parts_with : List Item → List Item → Option (List ℕ) → Parts
 parts_with [] right weight = parts no_item [] right weight
 parts_with (root ∷ below) right weight = parts root below right weight
 
-abbrev pub found_parts : List ℕ → List Place → List Place → Option RootAndWeight → Option Parts
+abbrev pub found_parts : List ℕ → List Place → List Place → Option Found → Option Parts
 found_parts line left right None = None
 found_parts line left right (Some f) = Some (parts_with (items_back line left) (items_back line right) (text_at line f.weight))
 
 -- what was found lies in its line, and the root's tokens are those of the first item
-pub record FoundIn (line : List ℕ) (left right : List Place) (f : RootAndWeight) : Type 0 where
+pub record FoundIn (line : List ℕ) (left right : List Place) (f : Found) : Type 0 where
   pub root : Item
   pub below : List Item
   pub items : items_back line left ≡ root ∷ below
@@ -58,7 +58,7 @@ pub record FoundIn (line : List ℕ) (left right : List Place) (f : RootAndWeigh
   pub left_lie : All (PlaceLies (length line)) left
   pub right_lie : All (PlaceLies (length line)) right
 
-abbrev pub FoundLies : List ℕ → List Place → List Place → Option RootAndWeight → Type 0
+abbrev pub FoundLies : List ℕ → List Place → List Place → Option Found → Type 0
 FoundLies line left right None = Unit {0}
 FoundLies line left right (Some f) = FoundIn line left right f
 

@@ -1,7 +1,7 @@
 -- Rules whose labels are in a table.
 use Rattle.std.specs.Prelude.{◌<◌, ℕ, List, Option, Some, None}
 use Rattle.tib_lex.specs.Lists.{Each}
-use Rattle.tib_tree.specs.TreeSides.{preorder_of}
+use Rattle.tib_tree.specs.Trees.{preorder_of}
 use Rattle.tib_grammar.specs.Sides.{Symbol, label, hole}
 use Rattle.tib_transducer.specs.declared.Variable.{Variable}
 use Rattle.tib_transducer.specs.declared.Pair.{Pair}

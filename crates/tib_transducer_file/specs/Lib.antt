@@ -7,7 +7,7 @@ pub mod Faults
 pub mod FileHeld
 pub mod Formats
 pub mod Forms
-pub mod RootAndWeight
+pub mod Found
 pub mod Labelled
 pub mod Laws
 pub mod Pieces

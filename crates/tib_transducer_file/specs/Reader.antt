@@ -8,24 +8,24 @@ use Rattle.tib_lex.specs.Grammar.{Word}
 use Rattle.tib_lex.specs.Lists.{Along}
 use Rattle.tib_tree.specs.Written.{Item}
 use Rattle.tib_tree.specs.Shape.{items_back}
-use Rattle.tib_tree.specs.TreeSides.{most_nodes}
+use Rattle.tib_tree.specs.Trees.{most_nodes}
 use Rattle.tib_tree.specs.declared.shape.Place.{Place}
 use Rattle.tib_grammar.specs.Sides.{Symbol}
-use Rattle.tib_grammar_file.specs.RootAndWeight.{text_at}
+use Rattle.tib_grammar_file.specs.Found.{text_at}
 use Rattle.tib_transducer.specs.declared.Pair.{Pair}
 use Rattle.tib_transducer_file.specs.Rule.{Parts, has_unknown, numbers_in, checked, rule_line_by, rule_line_of}
-use Rattle.tib_transducer_file.specs.RootAndWeight.{FoundIn, parts_with}
+use Rattle.tib_transducer_file.specs.Found.{FoundIn, parts_with}
 use Rattle.tib_transducer_file.specs.Built.{AreOneTree}
 use Rattle.tib_transducer_file.specs.Value.{IsRightNode}
-use Rattle.tib_transducer_file.specs.declared.parts.RootAndWeight.{RootAndWeight}
+use Rattle.tib_transducer_file.specs.declared.parts.Found.{Found}
 
 -- the parts of a rule that was found
-abbrev pub parts_found : List ℕ → List Place → List Place → RootAndWeight → Parts
+abbrev pub parts_found : List ℕ → List Place → List Place → Found → Parts
 parts_found line left right f = parts_with (items_back line left) (items_back line right) (text_at line f.weight)
 
 -- the tokens of a line are a rule, and of the places of its right side this holds
 pub record FoundRuleBy (reads : List Word → Option (List Item)) (Holds : List ℕ → List Place → Type 0)
-    (line : List ℕ) (left right : List Place) (f : RootAndWeight) : Type 0 where
+    (line : List ℕ) (left right : List Place) (f : Found) : Type 0 where
   pub lies : FoundIn line left right f
   pub read : (scale : Scale) → rule_line_by reads scale line ≡ checked scale (parts_found line left right f)
   pub left_tree : AreOneTree (items_back line left)
@@ -34,7 +34,7 @@ pub record FoundRuleBy (reads : List Word → Option (List Item)) (Holds : List 
 
 -- a rule, or no tokens, or a fault
 abbrev pub IsFoundBy : (List Word → Option (List Item)) → (List ℕ → List Place → Type 0) →
-    List ℕ → List Place → List Place → Result (Option RootAndWeight) LineError → Type 0
+    List ℕ → List Place → List Place → Result (Option Found) LineError → Type 0
 IsFoundBy read Holds line left right (Ok None) = (scale : Scale) → rule_line_by read scale line ≡ Ok None
 IsFoundBy read Holds line left right (Ok (Some f)) = FoundRuleBy read Holds line left right f
 IsFoundBy read Holds line left right (Err (errors.Fault kind)) =
@@ -57,7 +57,7 @@ pub record IsWholeSide (IsWhole : List Item → Type 0) (symbols : List (Symbol 
 
 -- where something was found, this holds of its right side
 abbrev pub HoldsFound : (List ℕ → List Place → Type 0) →
-    List ℕ → List Place → Option RootAndWeight → Type 0
+    List ℕ → List Place → Option Found → Type 0
 HoldsFound Holds line right None = Unit {0}
 HoldsFound Holds line right (Some f) = Holds line right
 

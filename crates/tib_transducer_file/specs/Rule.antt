@@ -10,7 +10,7 @@ use Rattle.tib_lex.specs.declared.fault.FaultKind.{FaultKind}
 use Rattle.tib_lex.specs.declared.fault.FaultKind.TheVariants as kinds
 use Rattle.tib_tree.specs.Written.{Item}
 use Rattle.tib_tree.specs.Machine.{IsTree, nodes_of}
-use Rattle.tib_tree.specs.TreeSides.{most_nodes}
+use Rattle.tib_tree.specs.Trees.{most_nodes}
 use Rattle.tib_grammar_file.specs.Rule.{weight_words, weight_in, front_of, with_nodes, Parts as RightParts}
 use Rattle.tib_grammar_file.specs.Weight.{cost_of}
 use Rattle.tib_transducer_file.specs.Pieces.{Piece, meanings, pieces_of}

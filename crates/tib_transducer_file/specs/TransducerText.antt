@@ -6,7 +6,7 @@ use Rattle.tib_lex.specs.Lines.{lines_of}
 use Rattle.tib_lex.specs.Lists.{Along, Each}
 use Rattle.tib_tree.specs.Grows.{AddsAll}
 use Rattle.tib_tree.specs.Machine.{IsTree}
-use Rattle.tib_tree.specs.TreeSides.{preorder_of, most_nodes}
+use Rattle.tib_tree.specs.Trees.{preorder_of, most_nodes}
 use Rattle.tib_tree.specs.Written.{Item}
 use Rattle.tib_grammar_file.specs.Rule.{has_dot}
 use Rattle.tib_grammar_file.specs.Weight.{IsCostOf}

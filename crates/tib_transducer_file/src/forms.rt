@@ -4,10 +4,10 @@ ghost use Rattle.std.specs.List.{list_all};
 ghost use Rattle.std.specs.Option.{option_map};
 ghost use Rattle.tib_lex.specs.Line.{Lies, text_of, word_at};
 ghost use Rattle.tib_tree.specs.Shape.{item_at, PlaceLies};
-ghost use Rattle.tib_grammar_file.specs.RootAndWeight.{text_at, WeightLies};
+ghost use Rattle.tib_grammar_file.specs.Found.{text_at, WeightLies};
 ghost use Rattle.tib_grammar_file.specs.Weight.{is_digit as spec_is_digit, decimal};
 ghost use Rattle.tib_transducer_file.specs.Forms.{digits, number_size as spec_number_size, number_of as spec_number_of, stop_at as spec_stop_at, variable_of as spec_variable_of, pair_of as spec_pair_of, variable_in as spec_variable_in, pair_in as spec_pair_in, is_stray as spec_is_stray, written_label, label_behind as spec_label_behind, ends_with_stop as spec_ends_with_stop, ends_with_colon as spec_ends_with_colon, leaf_text, is_some, is_root};
-ghost use Rattle.tib_transducer_file.specs.RootAndWeight.{bytes_at, variable_at, pair_at, IsRootAt};
+ghost use Rattle.tib_transducer_file.specs.Found.{bytes_at, variable_at, pair_at, IsRootAt};
 
 use tib_lex::{Kind, Token, is_name};
 use tib_tree::Place;

@@ -12,7 +12,7 @@ ghost use Rattle.tib_transducer_file.specs.Pieces.{pieces_at};
 ghost use Rattle.tib_transducer_file.specs.Forms.{joins, left_words, is_kind, is_stray as spec_is_stray, takes as spec_takes, opens as spec_opens, pair_in as spec_pair_in};
 ghost use Rattle.tib_transducer_file.specs.Rule.{parts_by, numbers_in, is_unknown};
 ghost use Rattle.tib_transducer_file.specs.Reader.{HoldsFound, IsRightAt};
-ghost use Rattle.tib_transducer_file.specs.RootAndWeight.{bytes_at, found_parts, FoundLies, parts_with, IsChecked, IsRootAt, IsLeftFound, AreNumbers, is_lone_root};
+ghost use Rattle.tib_transducer_file.specs.Found.{bytes_at, found_parts, FoundLies, parts_with, IsChecked, IsRootAt, IsLeftFound, AreNumbers, is_lone_root};
 
 use crate::forms::{
     RootToken, ends_with_colon, ends_with_stop, is_stray, pair_in, root_of, variable_in,
@@ -27,7 +27,7 @@ use tib_tree::{Place, Reader};
 
 /// The tokens of a rule's root and of its weight.
 #[derive(Clone, Copy, Debug)]
-pub(crate) struct RootAndWeight {
+pub(crate) struct Found {
     pub root: RootToken,
     pub weight: Option<Token>,
 }
@@ -202,7 +202,7 @@ pub(crate) fn find_parts<R: RightReader>(
     words: &mut Vec<Token>,
     left: &mut Reader,
     right: &mut R,
-) -> Result<Option<RootAndWeight>, AllocError>
+) -> Result<Option<Found>, AllocError>
     requires few { length tokens.now < 2 ^ 32 - 1 }
     requires lie { All (Lies (length line.now)) tokens.now }
     ensures parts { IfOk result (λ found. parts_by R.reads (pieces_at line.now 0 tokens.now)
@@ -227,7 +227,7 @@ pub(crate) fn find_parts<R: RightReader>(
     if has_stray(line, right.places()) {
         return Ok(None);
     }
-    Ok(Some(RootAndWeight { root, weight }))
+    Ok(Some(Found { root, weight }))
 }
 
 // Whether the left side is a variable alone.

@@ -6,7 +6,7 @@ ghost use Rattle.tib_lex.specs.Line.{Lies, words_at};
 ghost use Rattle.tib_lex.specs.Lines.{HasNoFeed};
 ghost use Rattle.tib_tree.specs.Grows.{Grows, AddsAll};
 ghost use Rattle.tib_tree.specs.Shape.{items_back, item_at, PlaceLies};
-ghost use Rattle.tib_tree.specs.TreeSides.{most_nodes};
+ghost use Rattle.tib_tree.specs.Trees.{most_nodes};
 ghost use Rattle.tib_tree.specs.Written.{Item as ItemOf};
 ghost use Rattle.tib_tree.specs.declared.shape.Place.{Place};
 ghost use Rattle.tib_grammar.specs.Sides.{Symbol};

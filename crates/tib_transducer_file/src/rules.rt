@@ -7,11 +7,11 @@ ghost use Rattle.tib_lex.specs.Lines.{lines_of, each_line, HasNoFeed};
 ghost use Rattle.tib_tree.specs.Grows.{Grows};
 ghost use Rattle.tib_transducer_file.specs.Rule.{rule_line_by, rule_line_of};
 ghost use Rattle.tib_transducer_file.specs.Value.{IsRuleBy};
-ghost use Rattle.tib_transducer_file.specs.RootAndWeight.{FoundIn};
+ghost use Rattle.tib_transducer_file.specs.Found.{FoundIn};
 ghost use Rattle.tib_transducer_file.specs.Built.{AddsLine, AddsStates, AreFileRules};
 ghost use Rattle.tib_transducer_file.specs.Reader.{FoundRuleBy, GoodRule, IsFoundBy, IsGood, IsRightAt, parts_found};
 
-use crate::parts::{RootAndWeight, check_variables, find_parts};
+use crate::parts::{Found, check_variables, find_parts};
 use crate::pieces::read_pieces;
 use crate::right::RightReader;
 use crate::sides::{read_left, right_nodes};
@@ -40,7 +40,7 @@ fn build<R: RightReader>(
     line: &[u8],
     left: &[Place],
     right: &[Place],
-    found: &RootAndWeight,
+    found: &Found,
     cost: Cost,
     variables: &IndexSet<u32>,
     names: &mut Labels,
@@ -76,7 +76,7 @@ fn check(
     line: &[u8],
     left: &[Place],
     right: &[Place],
-    found: &RootAndWeight,
+    found: &Found,
     variables: &mut IndexSet<u32>,
     text: &mut Vec<u8>,
 ) -> Result<Cost, LineError>
@@ -115,7 +115,7 @@ impl<R: RightReader> RuleReader<R> {
     }
 
     /// What is found in a line, if it has tokens.
-    fn find(&mut self, line: &[u8]) -> Result<Option<RootAndWeight>, LineError>
+    fn find(&mut self, line: &[u8]) -> Result<Option<Found>, LineError>
         requires { length line.now ≤ most_bytes }
         ensures { IsFoundBy R.reads (IsRightAt R.is_whole R.is_node) line.now
             self.new.left.places.items (R.places_of self.new.right) result }

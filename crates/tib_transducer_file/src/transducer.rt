@@ -8,7 +8,7 @@ ghost use Rattle.tib_transducer_file.specs.TransducerText.{ReadsAs};
 ghost use Rattle.tib_transducer_file.specs.Faults.{IsCause};
 
 use crate::file::read_file;
-use crate::trees::TreeSides;
+use crate::trees::Trees;
 use std::alloc::Global;
 use tib_cost::Semiring;
 use tib_grammar::Names;
@@ -55,7 +55,7 @@ pub fn read_transducer<S: Semiring>(
     ensures labels { Grows labels.old labels.new }
     ensures few { length labels.new ≤ length labels.old + length bytes.now }
 {
-    match read_file::<S, TreeSides>(alloc, bytes, labels) {
+    match read_file::<S, Trees>(alloc, bytes, labels) {
         Ok(file) => Ok(transducer_over(file.names, file.rules)),
         Err(error) => Err(error),
     }

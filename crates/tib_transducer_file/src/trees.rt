@@ -1,6 +1,6 @@
 // Right sides that are trees.
 ghost use Rattle.std.specs.Prelude.{◌≡◌, ◌≤◌, length};
-ghost use Rattle.tib_tree.specs.TreeSides.{preorder_of, most_nodes, IsOneTree};
+ghost use Rattle.tib_tree.specs.Trees.{preorder_of, most_nodes, IsOneTree};
 ghost use Rattle.tib_grammar.specs.Items.{pairs_of};
 ghost use Rattle.tib_transducer_file.specs.Built.{AreOneTree};
 ghost use Rattle.tib_transducer_file.specs.Reader.{IsWholeSide};
@@ -18,7 +18,7 @@ use tib_tree::{Labels, Place, Reader, ShapeError};
 
 /// Reads right sides that are trees.
 #[derive(Drop)]
-pub(crate) struct TreeSides {
+pub(crate) struct Trees {
     pub reader: Reader,
 }
 
@@ -35,7 +35,7 @@ fn right_side(items: Vec<Item<Pair<u32>>>) -> Side<Pair<u32>>
     }
 }
 
-impl RightReader for TreeSides {
+impl RightReader for Trees {
     ghost use Rattle.tib_tree.specs.Machine.{nodes_of, IsTree};
     ghost use Rattle.tib_grammar.specs.Items.{pair_of};
     ghost use Rattle.tib_transducer_file.specs.Built.{AreOneTree};
@@ -60,8 +60,8 @@ impl RightReader for TreeSides {
 
     ghost view = { tree_view };
 
-    fn new(alloc: Global) -> TreeSides {
-        TreeSides {
+    fn new(alloc: Global) -> Trees {
+        Trees {
             reader: Reader::new(alloc),
         }
     }

@@ -1,27 +1,27 @@
 // What the lines of a file that were read have: no tree, one, or several.
 ghost use Rattle.std.specs.Prelude.{◌≡◌};
-ghost use Rattle.tib_tree.specs.TreeCount.{with_tree};
+ghost use Rattle.tib_tree.specs.Found.{with_tree};
 
 use crate::Tree;
 
 /// How many trees were read.
 #[derive(Drop)]
-pub(crate) enum TreeCount {
+pub(crate) enum Found {
     Nothing,
     One(Tree),
     /// Several, the second in the line with this number.
     Second(u32),
 }
 
-impl TreeCount {
+impl Found {
     /// One more tree, in the line with this number.
     pub(crate) fn add(&mut self, tree: Tree, line: u32)
         ensures { self.new ≡ with_tree line tree self.old }
     {
         match self {
-            TreeCount::Nothing => *self = TreeCount::One(tree),
-            TreeCount::One(_) => *self = TreeCount::Second(line),
-            TreeCount::Second(_) => {}
+            Found::Nothing => *self = Found::One(tree),
+            Found::One(_) => *self = Found::Second(line),
+            Found::Second(_) => {}
         }
     }
 }

@@ -12,7 +12,7 @@ use Rattle.tib_grammar.specs.Run.{IsCost, rule_at, yields}
 use Rattle.tib_grammar.specs.declared.Rule.{Rule}
 use Rattle.tib_grammar.proofs.NormalRuns.{Begins, count-yields, IsLeast-no_states, IsLeast-one_more, IsLeast-all_rules}
 use Rattle.tib_normal.specs.Rules.{positions_with}
-use Rattle.tib_weigh.specs.declared.vector.StateCost.{StateCost}
+use Rattle.tib_weigh.specs.declared.vector.Entry.{Entry}
 use Rattle.tib_weigh.specs.Entries.{cost_in}
 use Rattle.tib_weigh.specs.Vectors.{times_all, Weighed}
 use Rattle.tib_weigh.proofs.Stacks.{times-none}
@@ -28,7 +28,7 @@ abbrev pub BeginsAmong : (ℕ → ℕ → ℕ) → List (Rule ℕ) → ℕ → �
 BeginsAmong product rules q f kids ps c = (n : ℕ) × Has ps n × Begins product rules q f kids n c
 
 -- a product is none where one of its costs is
-pub times_all-none_at : (product : ℕ → ℕ → ℕ) (qs : List ℕ) (vs : List (List StateCost)) (j : ℕ) → j < length qs → cost_in (get_or vs j []) (get_or qs j 0) ≡ None → times_all product qs vs ≡ None
+pub times_all-none_at : (product : ℕ → ℕ → ℕ) (qs : List ℕ) (vs : List (List Entry)) (j : ℕ) → j < length qs → cost_in (get_or vs j []) (get_or qs j 0) ≡ None → times_all product qs vs ≡ None
 times_all-none_at product [] vs j h e = absurd (omega arith)
 times_all-none_at product (q ∷ qs) [] j h e = refl
 times_all-none_at product (q ∷ qs) (v ∷ vs) zero h e = rw e refl
@@ -90,7 +90,7 @@ module _ {levelled weighted : Bool} {product : ℕ → ℕ → ℕ} (laws : Prod
 
   -- the product over the states is the least cost of runs from them
   pub times_all-is_least :
-      (qs : List ℕ) (ts : Trees ℕ) (vs : List (List StateCost)) → length qs ≤ count ts → Weighed product rules ts vs →
+      (qs : List ℕ) (ts : Trees ℕ) (vs : List (List Entry)) → length qs ≤ count ts → Weighed product rules ts vs →
       IsLeast (IsCost product rules qs (first_trees (length qs) ts)) (times_all product qs vs)
   times_all-is_least [] ts vs h w = IsLeast-no_states laws rules
   times_all-is_least (q ∷ qs) none vs h w = absurd (omega arith)
@@ -100,7 +100,7 @@ module _ {levelled weighted : Bool} {product : ℕ → ℕ → ℕ} (laws : Prod
 
   -- a rule is worth the least cost of the runs that begin with it
   pub rule_least :
-      AreNormal rules → (ts : Trees ℕ) (vs : List (List StateCost)) (f k m q : ℕ) → IsRulePlace rules f k m → k ≤ count ts → Weighed product rules ts vs → (rule_at rules m).left ≡ q →
+      AreNormal rules → (ts : Trees ℕ) (vs : List (List Entry)) (f k m q : ℕ) → IsRulePlace rules f k m → k ≤ count ts → Weighed product rules ts vs → (rule_at rules m).left ≡ q →
       IsLeast (Begins product rules q f (first_trees k ts) m) (times product (Some (rule_at rules m).cost) (times_all product (holes (rule_at rules m).right.kids) vs))
   rule_least normal ts vs f k m q place enough w left =
       IsLeast-same (λ c p. record { left = left; root = place.root; below = p }) (λ c b. b.below) (IsLeast-scaled laws (rule_at rules m).cost all)
@@ -117,7 +117,7 @@ module _ {levelled weighted : Bool} {product : ℕ → ℕ → ℕ} (laws : Prod
 
   -- one more rule
   pub among_step :
-      AreNormal rules → (ts : Trees ℕ) (vs : List (List StateCost)) (f k : ℕ) (ps : List ℕ) (m q : ℕ) (v v' : Option ℕ) → IsRulePlace rules f k m → k ≤ count ts → Weighed product rules ts vs →
+      AreNormal rules → (ts : Trees ℕ) (vs : List (List Entry)) (f k : ℕ) (ps : List ℕ) (m q : ℕ) (v v' : Option ℕ) → IsRulePlace rules f k m → k ≤ count ts → Weighed product rules ts vs →
       IsLeast (BeginsAmong product rules q f (first_trees k ts) ps) v →
       v' ≡ (if nat_eq (rule_at rules m).left q then lesser v (times product (Some (rule_at rules m).cost) (times_all product (holes (rule_at rules m).right.kids) vs)) else v) →
       IsLeast (BeginsAmong product rules q f (first_trees k ts) (ps ++ m ∷ [])) v'
@@ -136,7 +136,7 @@ module _ {levelled weighted : Bool} {product : ℕ → ℕ → ℕ} (laws : Prod
           holes_long
           (times_all-is_least (holes (rule_at rules m).right.kids) ts vs (omega (arith, holes_long, enough)) w)
 
-pub count-Weighed : (product : ℕ → ℕ → ℕ) (rules : List (Rule ℕ)) (ts : Trees ℕ) (vs : List (List StateCost)) → Weighed product rules ts vs → count ts ≡ length vs
+pub count-Weighed : (product : ℕ → ℕ → ℕ) (rules : List (Rule ℕ)) (ts : Trees ℕ) (vs : List (List Entry)) → Weighed product rules ts vs → count ts ≡ length vs
 count-Weighed product rules none [] w = refl
 count-Weighed product rules none (v ∷ vs) w = absurd w
 count-Weighed product rules (tree f kids rest) [] w = absurd w

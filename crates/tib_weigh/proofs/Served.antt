@@ -6,26 +6,26 @@ use Rattle.std.proofs.Common.{arith, ap, sym, ◌∙◌, subst, inl, inr, get_or
 use Rattle.std.proofs.lemmas.List.{get_or_append_left}
 use Rattle.std.proofs.Math.Seq.{get_or-append_seam}
 use Rattle.tib_grammar.specs.declared.Rule.{Rule}
-use Rattle.tib_normal.specs.RuleIndex.{same_shape}
+use Rattle.tib_normal.specs.Index.{same_shape}
 use Rattle.tib_normal.proofs.Buckets.{same_shape_cases}
-use Rattle.tib_weigh.specs.declared.table.SlotTable.{SlotTable}
+use Rattle.tib_weigh.specs.declared.table.Table.{Table}
 use Rattle.tib_weigh.specs.declared.index.Shape.{Shape}
-use Rattle.tib_weigh.specs.declared.index.RuleIndex.{RuleIndex}
+use Rattle.tib_weigh.specs.declared.index.Index.{Index}
 use Rattle.tib_weigh.specs.Tables.{IsTable}
 use Rattle.tib_weigh.specs.Shapes.{IsShape, IsIndex}
 use Rattle.tib_weigh.proofs.Flat.{same_or_less}
 
 -- one more table
 pub tables_more :
-    (rules : List (Rule ℕ)) (n : ℕ) (ps : List ℕ) (k : ℕ) (old new : List SlotTable) (made : SlotTable) → new ≡ old ++ made ∷ [] → length old ≡ k → IsTable rules n ps k made →
-    ((j : ℕ) (t : SlotTable) → j < k → t ≡ get_or old j t → IsTable rules n ps j t) → (j : ℕ) (t : SlotTable) → j < k + 1 → t ≡ get_or new j t → IsTable rules n ps j t
+    (rules : List (Rule ℕ)) (n : ℕ) (ps : List ℕ) (k : ℕ) (old new : List Table) (made : Table) → new ≡ old ++ made ∷ [] → length old ≡ k → IsTable rules n ps k made →
+    ((j : ℕ) (t : Table) → j < k → t ≡ get_or old j t → IsTable rules n ps j t) → (j : ℕ) (t : Table) → j < k + 1 → t ≡ get_or new j t → IsTable rules n ps j t
 tables_more rules n ps k old new made pushed long is each j t h at = by (same_or_less j k (omega arith))
   where
     by : (j ≡ k) ⊎ (j < k) → IsTable rules n ps j t
     by (inl same) =
-        let t_is : t ≡ made = at ∙ ap (λ (xs : List SlotTable). get_or xs j t) pushed ∙ ap (λ i. get_or (old ++ made ∷ []) i t) (same ∙ sym long) ∙ get_or-append_seam old made [] t in
+        let t_is : t ≡ made = at ∙ ap (λ (xs : List Table). get_or xs j t) pushed ∙ ap (λ i. get_or (old ++ made ∷ []) i t) (same ∙ sym long) ∙ get_or-append_seam old made [] t in
         subst (λ x. IsTable rules n ps j x) (sym t_is) (subst (λ i. IsTable rules n ps i made) (sym same) is)
-    by (inr lt) = each j t lt (at ∙ ap (λ (xs : List SlotTable). get_or xs j t) pushed ∙ get_or_append_left old (made ∷ []) t j (omega arith))
+    by (inr lt) = each j t lt (at ∙ ap (λ (xs : List Table). get_or xs j t) pushed ∙ get_or_append_left old (made ∷ []) t j (omega arith))
 
 -- one more shape
 pub index_more :
@@ -43,7 +43,7 @@ index_more product rules look new g m made updates is each f n s at = elim (same
 
 -- what was found
 pub found :
-    (product : ℕ → ℕ → ℕ) (rules : List (Rule ℕ)) (index : RuleIndex) (f n : ℕ) (o : Option (Bor Shape)) → option_copied o ≡ get same_shape index.shapes (f, n) → IsIndex product rules index →
+    (product : ℕ → ℕ → ℕ) (rules : List (Rule ℕ)) (index : Index) (f n : ℕ) (o : Option (Bor Shape)) → option_copied o ≡ get same_shape index.shapes (f, n) → IsIndex product rules index →
     IfSome o (λ s. IsShape product rules f n s.now)
 found product rules index f n None e h = tt
 found product rules index f n (Some s) e h = h f n s.now (sym e)

@@ -18,9 +18,9 @@ use Rattle.tib_grammar.specs.declared.Item.{Item}
 use Rattle.tib_grammar.specs.declared.Item.TheVariants.{Label}
 use Rattle.tib_grammar.proofs.NormalRuns.{Begins}
 use Rattle.tib_normal.specs.Rules.{positions_with}
-use Rattle.tib_weigh.specs.declared.vector.StateCost.{StateCost}
+use Rattle.tib_weigh.specs.declared.vector.Entry.{Entry}
 use Rattle.tib_weigh.specs.declared.ready.Ready.{Ready}
-use Rattle.tib_weigh.specs.declared.table.SlotTable.{SlotTable}
+use Rattle.tib_weigh.specs.declared.table.Table.{Table}
 use Rattle.tib_weigh.specs.Entries.{cost_in, IsAscending}
 use Rattle.tib_weigh.specs.Vectors.{times_all, vectors, Weighed, IsVectorOf}
 use Rattle.tib_weigh.specs.Buckets.{state_below, IsRuleOver, IsReady, Stands}
@@ -129,12 +129,12 @@ all_none value at new blank = record { tried = λ e r h. absurd h; from = λ q c
 
 -- the slot of one more entry was tried
 pub all_more :
-    (value : Ready → Option ℕ) (v : List StateCost) (e : StateCost) (at : ℕ → List Ready) (rs : List Ready) (mid new : ℕ → Option ℕ) → rs ≡ at e.state → HasTried value e.state rs mid new → HasTriedAll value v at mid →
+    (value : Ready → Option ℕ) (v : List Entry) (e : Entry) (at : ℕ → List Ready) (rs : List Ready) (mid new : ℕ → Option ℕ) → rs ≡ at e.state → HasTried value e.state rs mid new → HasTriedAll value v at mid →
     HasTriedAll value (v ++ e ∷ []) at new
 all_more value v e at rs mid new is step was = record {
   tried = λ x r h a s. elim (has_or_last v e x h) [
     | inl b ↦ step.lower r.left (value r) (was.tried x r b a s)
-    | inr same ↦ step.tried r (subst (λ (l : List Ready). Has l r) (ap (λ (y : StateCost). at y.state) (sym same) ∙ sym is) a) (s ∙ ap (λ (y : StateCost). y.state) (sym same))
+    | inr same ↦ step.tried r (subst (λ (l : List Ready). Has l r) (ap (λ (y : Entry). at y.state) (sym same) ∙ sym is) a) (s ∙ ap (λ (y : Entry). y.state) (sym same))
   ];
   from = λ q c h. elim (step.from q c h) [
     | inl a ↦ was.from q c a
@@ -143,7 +143,7 @@ all_more value v e at rs mid new is step was = record {
 }
 
 -- the cost at an entry of an ascending vector
-pub cost_at_entry : (v : List StateCost) (i : ℕ) (d : StateCost) → IsAscending v → i < length v → cost_in v (get_or v i d).state ≡ Some (get_or v i d).cost
+pub cost_at_entry : (v : List Entry) (i : ℕ) (d : Entry) → IsAscending v → i < length v → cost_in v (get_or v i d).state ≡ Some (get_or v i d).cost
 cost_at_entry [] i d a h = absurd (omega arith)
 cost_at_entry (x ∷ xs) zero d a h = elim (nat_eq_cases x.state x.state) [ inl y ↦ rw y.1 refl | inr n ↦ absurd (n.0 refl) ]
 cost_at_entry (x ∷ xs) (suc i) d a h = elim (nat_eq_cases x.state (get_or xs i d).state) [
@@ -151,7 +151,7 @@ cost_at_entry (x ∷ xs) (suc i) d a h = elim (nat_eq_cases x.state (get_or xs i
   | inr n ↦ rw n.1 (cost_at_entry xs i d a.1 (omega arith))
 ]
   where
-    above : (ys : List StateCost) (k : ℕ) → Each (λ e. x.state < e.state) ys → k < length ys → x.state < (get_or ys k d).state
+    above : (ys : List Entry) (k : ℕ) → Each (λ e. x.state < e.state) ys → k < length ys → x.state < (get_or ys k d).state
     above [] k u l = absurd (omega arith)
     above (y ∷ ys) zero u l = u.0
     above (y ∷ ys) (suc k) u l = above ys k u.1 (omega arith)
@@ -161,13 +161,13 @@ times_cut product None w = tt
 times_cut product (Some a) None = tt
 times_cut product (Some a) (Some b) = elim (cut-cases (product a b)) [ inl h ↦ rw h.1 h.0 | inr h ↦ rw h.1 tt ]
 
-all_cut : (product : ℕ → ℕ → ℕ) (qs : List ℕ) (vs : List (List StateCost)) → IsCut (times_all product qs vs)
+all_cut : (product : ℕ → ℕ → ℕ) (qs : List ℕ) (vs : List (List Entry)) → IsCut (times_all product qs vs)
 all_cut product [] vs = omega arith
 all_cut product (q ∷ qs) [] = tt
 all_cut product (q ∷ qs) (v ∷ vs) = times_cut product (cost_in v q) (times_all product qs vs)
 
 -- after the place the product is that of all
-beside_behind : (product : ℕ → ℕ → ℕ) (j i : ℕ) (qs : List ℕ) (vs : List (List StateCost)) → j < i → times_beside product j i qs vs ≡ times_all product qs vs
+beside_behind : (product : ℕ → ℕ → ℕ) (j i : ℕ) (qs : List ℕ) (vs : List (List Entry)) → j < i → times_beside product j i qs vs ≡ times_all product qs vs
 beside_behind product j i [] vs h = refl
 beside_behind product j i (q ∷ qs) [] h = refl
 beside_behind product j i (q ∷ qs) (v ∷ vs) h = elim (nat_eq_cases i j) [
@@ -177,7 +177,7 @@ beside_behind product j i (q ∷ qs) (v ∷ vs) h = elim (nat_eq_cases i j) [
 
 -- states that agree beside the place have one product there
 pub beside_agrees :
-    (product : ℕ → ℕ → ℕ) (j i : ℕ) (ps qs : List ℕ) (vs : List (List StateCost)) → length ps ≡ length qs → ((k : ℕ) → k < length ps → (i + k ≡ j → ⊥) → get_or ps k 0 ≡ get_or qs k 0) →
+    (product : ℕ → ℕ → ℕ) (j i : ℕ) (ps qs : List ℕ) (vs : List (List Entry)) → length ps ≡ length qs → ((k : ℕ) → k < length ps → (i + k ≡ j → ⊥) → get_or ps k 0 ≡ get_or qs k 0) →
     times_beside product j i ps vs ≡ times_beside product j i qs vs
 beside_agrees product j i [] [] vs long same = refl
 beside_agrees product j i [] (q ∷ qs) vs long same = absurd (omega arith)
@@ -198,7 +198,7 @@ module _ {levelled weighted : Bool} {product : ℕ → ℕ → ℕ} (laws : Prod
 
   -- the cost at the place, times the product beside it
   pub beside_all :
-      (j i k : ℕ) (qs : List ℕ) (vs : List (List StateCost)) → j ≡ i + k → k < length qs → length qs ≤ length vs →
+      (j i k : ℕ) (qs : List ℕ) (vs : List (List Entry)) → j ≡ i + k → k < length qs → length qs ≤ length vs →
       times product (cost_in (get_or vs k []) (get_or qs k 0)) (times_beside product j i qs vs) ≡ times_all product qs vs
   beside_all j i k [] vs e h l = absurd (omega arith)
   beside_all j i k (q ∷ qs) [] e h l = absurd (omega arith)
@@ -217,7 +217,7 @@ module _ {levelled weighted : Bool} {product : ℕ → ℕ → ℕ} (laws : Prod
   module _ (rules : List (Rule ℕ)) (normal : AreNormal rules) where
     -- a rule that was made ready is worth its cost times that of its states
     pub worth_is :
-        (n j : ℕ) (vs : List (List StateCost)) (r : Ready) → IsReady rules n j r → IsRuleOver rules n r.position → j < n → n ≤ length vs →
+        (n j : ℕ) (vs : List (List Entry)) (r : Ready) → IsReady rules n j r → IsRuleOver rules n r.position → j < n → n ≤ length vs →
         worth product rules j vs r ≡ times product (Some (rule_at rules r.position).cost) (times_all product (holes (rule_at rules r.position).right.kids) vs)
     worth_is n j vs r ready over h l =
         let long : length (holes (rule_at rules r.position).right.kids) ≡ n = length-holes (rule_at rules r.position).right.kids (normal r.position over.below).are_holes ∙ over.many in
@@ -238,13 +238,13 @@ has_item xs i x h e = subst (Has xs) (sym e) (has_at xs i x h)
 pub taken : {A : Type 0} (P : List A → Type 0) (xs : List A) (i : ℕ) (x : A) → i < length xs → x ≡ get_or xs i x → P (take i xs ++ x ∷ []) → P (take (i + 1) xs)
 taken {A} P xs i x h e p = subst P (sym (take_more xs i x h ∙ ap (λ (y : A). take i xs ++ y ∷ []) (sym e))) p
 
-beside_cut : (product : ℕ → ℕ → ℕ) (j i : ℕ) (qs : List ℕ) (vs : List (List StateCost)) → IsCut (times_beside product j i qs vs)
+beside_cut : (product : ℕ → ℕ → ℕ) (j i : ℕ) (qs : List ℕ) (vs : List (List Entry)) → IsCut (times_beside product j i qs vs)
 beside_cut product j i [] vs = omega arith
 beside_cut product j i (q ∷ qs) [] = tt
 beside_cut product j i (q ∷ qs) (v ∷ vs) = times_cut product (if nat_eq i j then Some 0 else cost_in v q) (times_beside product j (suc i) qs vs)
 
 pub beside-step :
-    (product : ℕ → ℕ → ℕ) (j : ℕ) (qs : List ℕ) (vs : List (List StateCost)) (i : ℕ) → 0 < i → i ≤ length qs → i ≤ length vs →
+    (product : ℕ → ℕ → ℕ) (j : ℕ) (qs : List ℕ) (vs : List (List Entry)) (i : ℕ) → 0 < i → i ≤ length qs → i ≤ length vs →
     times_beside product j (i - 1) (drop (i - 1) qs) (drop (i - 1) vs)
     ≡ times product (if nat_eq (i - 1) j then Some 0 else cost_in (get_or vs (i - 1) []) (get_or qs (i - 1) 0)) (times_beside product j i (drop i qs) (drop i vs))
 beside-step product j qs vs i h k l =
@@ -254,7 +254,7 @@ beside-step product j qs vs i h k l =
 
 -- where the product after is none, so is that of all
 beside-none :
-    (product : ℕ → ℕ → ℕ) (j i k : ℕ) (qs : List ℕ) (vs : List (List StateCost)) → k ≤ length qs → k ≤ length vs → times_beside product j (i + k) (drop k qs) (drop k vs) ≡ None → times_beside product j i qs vs ≡ None
+    (product : ℕ → ℕ → ℕ) (j i k : ℕ) (qs : List ℕ) (vs : List (List Entry)) → k ≤ length qs → k ≤ length vs → times_beside product j (i + k) (drop k qs) (drop k vs) ≡ None → times_beside product j i qs vs ≡ None
 beside-none product j i zero qs vs h l e = let z : i + 0 ≡ i = omega arith in subst (λ m. times_beside product j m qs vs ≡ None) z e
 beside-none product j i (suc k) [] vs h l e = absurd (omega arith)
 beside-none product j i (suc k) (q ∷ qs) [] h l e = absurd (omega arith)
@@ -265,7 +265,7 @@ beside-none product j i (suc k) (q ∷ qs) (v ∷ vs) h l e =
 
 -- one more hole, at the place
 pub hole_at_place :
-    {levelled weighted : Bool} {product : ℕ → ℕ → ℕ} → ProductLaws levelled weighted product → (stack : List (Vec StateCost)) (hs : List (Item ℕ)) (j i p : ℕ) → 0 < i → i ≤ length hs → length hs ≤ length stack → i - 1 ≡ j →
+    {levelled weighted : Bool} {product : ℕ → ℕ → ℕ} → ProductLaws levelled weighted product → (stack : List (Vec Entry)) (hs : List (Item ℕ)) (j i p : ℕ) → 0 < i → i ≤ length hs → length hs ≤ length stack → i - 1 ≡ j →
     Some p ≡ times_beside product j i (drop i (map state_in hs)) (drop i (vectors stack)) →
     Some p ≡ times_beside product j (i - 1) (drop (i - 1) (map state_in hs)) (drop (i - 1) (vectors stack))
 hole_at_place {product = product} laws stack hs j i p h k l here before =
@@ -278,7 +278,7 @@ hole_at_place {product = product} laws stack hs j i p h k l here before =
 
 -- one more hole, where its cost was looked up
 pub hole_beside :
-    (product : ℕ → ℕ → ℕ) (stack : List (Vec StateCost)) (hs : List (Item ℕ)) (j i : ℕ) (r : Vec StateCost) (looked : Option ℕ) (p : ℕ) → 0 < i → i ≤ length hs → length hs ≤ length stack → (i - 1 ≡ j → ⊥) →
+    (product : ℕ → ℕ → ℕ) (stack : List (Vec Entry)) (hs : List (Item ℕ)) (j i : ℕ) (r : Vec Entry) (looked : Option ℕ) (p : ℕ) → 0 < i → i ≤ length hs → length hs ≤ length stack → (i - 1 ≡ j → ⊥) →
     Each IsAscending (vectors stack) → r ≡ get_or stack (length stack - 1 - (i - 1)) r → looked ≡ cost_in r.items (state_in (get_or hs (i - 1) (Label 0 0))) →
     Some p ≡ times_beside product j i (drop i (map state_in hs)) (drop i (vectors stack)) →
     times_beside product j (i - 1) (drop (i - 1) (map state_in hs)) (drop (i - 1) (vectors stack)) ≡ times product looked (Some p)
@@ -292,7 +292,7 @@ hole_beside product stack hs j i r looked p h k l other ascend at found before =
 
 -- where it is none, so is the product of all
 pub none_beside :
-    (product : ℕ → ℕ → ℕ) (stack : List (Vec StateCost)) (hs : List (Item ℕ)) (j i : ℕ) → i ≤ length hs → length hs ≤ length stack →
+    (product : ℕ → ℕ → ℕ) (stack : List (Vec Entry)) (hs : List (Item ℕ)) (j i : ℕ) → i ≤ length hs → length hs ≤ length stack →
     times_beside product j (i - 1) (drop (i - 1) (map state_in hs)) (drop (i - 1) (vectors stack)) ≡ None → None ≡ times_beside product j 0 (map state_in hs) (vectors stack)
 none_beside product stack hs j i k l e =
     let long : length (map state_in hs) ≡ length hs = simp length-map in
@@ -305,7 +305,7 @@ no_greater_at_most None (Some n) m h a = absurd h
 no_greater_at_most (Some b) (Some n) m h a = omega (arith, h, a)
 
 -- a state has no cost in a vector, or an entry
-entry_or_none : (v : List StateCost) (q : ℕ) → (cost_in v q ≡ None) ⊎ ((e : StateCost) × Has v e × (e.state ≡ q))
+entry_or_none : (v : List Entry) (q : ℕ) → (cost_in v q ≡ None) ⊎ ((e : Entry) × Has v e × (e.state ≡ q))
 entry_or_none [] q = inl refl
 entry_or_none (e ∷ es) q = elim (nat_eq_cases e.state q) [
   | inl y ↦ inr (e, inl refl, y.0)
@@ -315,8 +315,8 @@ entry_or_none (e ∷ es) q = elim (nat_eq_cases e.state q) [
   ]
 ]
 
-module _ {levelled weighted : Bool} {product : ℕ → ℕ → ℕ} (laws : ProductLaws levelled weighted product) (rules : List (Rule ℕ)) (normal : AreNormal rules) (ts : Trees ℕ) (vs : List (List StateCost))
-    (f n j : ℕ) (t : SlotTable) (new : ℕ → Option ℕ) (enough : n ≤ count ts) (deep : n ≤ length vs) (inside : j < n) (w : Weighed product rules ts vs) (table : IsTable rules n (positions_with f n rules) j t)
+module _ {levelled weighted : Bool} {product : ℕ → ℕ → ℕ} (laws : ProductLaws levelled weighted product) (rules : List (Rule ℕ)) (normal : AreNormal rules) (ts : Trees ℕ) (vs : List (List Entry))
+    (f n j : ℕ) (t : Table) (new : ℕ → Option ℕ) (enough : n ≤ count ts) (deep : n ≤ length vs) (inside : j < n) (w : Weighed product rules ts vs) (table : IsTable rules n (positions_with f n rules) j t)
     (all : HasTriedAll (worth product rules j vs) (get_or vs j []) (bucket t) new) where
   place : (p : ℕ) → Has (positions_with f n rules) p → IsRulePlace rules f n p
   place p h = has_rule_place rules f n p h
@@ -357,7 +357,7 @@ module _ {levelled weighted : Bool} {product : ℕ → ℕ → ℕ} (laws : Prod
         | inr e ↦ by_entry p stands e.0 e.1 e.2 most_of b.2.left
       ]
     where
-      by_entry : (p : ℕ) → Stands (bucket t (state_below rules p j)) p → (e : StateCost) → Has (get_or vs j []) e → e.state ≡ state_below rules p j →
+      by_entry : (p : ℕ) → Stands (bucket t (state_below rules p j)) p → (e : Entry) → Has (get_or vs j []) e → e.state ≡ state_below rules p j →
           AtMost (times product (Some (rule_at rules p).cost) (times_all product (holes (rule_at rules p).right.kids) vs)) m → (rule_at rules p).left ≡ q → AtMost (new q) m
       by_entry p stands e has state most_of left =
           let r : Ready = stands.ready in
@@ -372,7 +372,7 @@ module _ {levelled weighted : Bool} {product : ℕ → ℕ → ℕ} (laws : Prod
           subst (λ i. AtMost (new i) m) r_left (no_greater_at_most (new r.left) (worth product rules j vs r) m tried (subst (λ v. AtMost v m) (sym value) most_of))
 
   -- the vector of the node
-  pub vector_found : (v : List StateCost) → IsAscending v → ((q : ℕ) → cost_in v q ≡ new q) → IsVectorOf product rules f (first_trees n ts) v
+  pub vector_found : (v : List Entry) → IsAscending v → ((q : ℕ) → cost_in v q ≡ new q) → IsVectorOf product rules f (first_trees n ts) v
   vector_found v ascends costs = record {
     ascends = ascends;
     least = λ q. rw (costs q) (among_all laws rules normal q f n (first_trees n ts) (count-first n ts enough) (record { attained = member q (new q) refl; lower = lower q }));

@@ -8,27 +8,27 @@ use Rattle.tib_grammar.specs.Run.{rule_at}
 use Rattle.tib_grammar.specs.declared.Rule.{Rule}
 use Rattle.tib_weigh.specs.Buckets.{IsRuleOver}
 use Rattle.tib_weigh.specs.Entries.{cost_in}
-use Rattle.tib_weigh.specs.declared.vector.StateCost.{StateCost}
+use Rattle.tib_weigh.specs.declared.vector.Entry.{Entry}
 use Rattle.tib_weigh.specs.declared.ready.Ready.{Ready}
 use Rattle.tib_weigh.specs.declared.trying.Rest.{Rest}
 
 -- the product of the costs at the states, each in its own vector, but for the place j; the first
 -- place is i
-abbrev pub times_beside : (ℕ → ℕ → ℕ) → ℕ → ℕ → List ℕ → List (List StateCost) → Option ℕ
+abbrev pub times_beside : (ℕ → ℕ → ℕ) → ℕ → ℕ → List ℕ → List (List Entry) → Option ℕ
 times_beside product j i [] vs = Some 0
 times_beside product j i (q ∷ qs) [] = None
 times_beside product j i (q ∷ qs) (v ∷ vs) = times product (if nat_eq i j then Some 0 else cost_in v q) (times_beside product j (suc i) qs vs)
 
 -- that of the states below the rule at p
-abbrev pub rest_worth : (ℕ → ℕ → ℕ) → List (Rule ℕ) → ℕ → List (List StateCost) → ℕ → Option ℕ
+abbrev pub rest_worth : (ℕ → ℕ → ℕ) → List (Rule ℕ) → ℕ → List (List Entry) → ℕ → Option ℕ
 rest_worth product rules j vs p = times_beside product j 0 (holes (rule_at rules p).right.kids) vs
 
 -- what is remembered is that of its rule
-abbrev pub IsRemembered : (ℕ → ℕ → ℕ) → List (Rule ℕ) → ℕ → List (List StateCost) → Rest → Type 0
+abbrev pub IsRemembered : (ℕ → ℕ → ℕ) → List (Rule ℕ) → ℕ → List (List Entry) → Rest → Type 0
 IsRemembered product rules j vs r = (p : ℕ) → r.position ≡ Some p → r.cost ≡ rest_worth product rules j vs p
 
 -- the cost of its state, times that of its rest, times its own
-abbrev pub worth : (ℕ → ℕ → ℕ) → List (Rule ℕ) → ℕ → List (List StateCost) → Ready → Option ℕ
+abbrev pub worth : (ℕ → ℕ → ℕ) → List (Rule ℕ) → ℕ → List (List Entry) → Ready → Option ℕ
 worth product rules j vs r = times product (times product (cost_in (get_or vs j []) r.state) (rest_worth product rules j vs r.rest)) (Some r.cost)
 
 -- their rests are rules of n states, and their left states are below `states`
@@ -49,6 +49,6 @@ pub record HasTried (value : Ready → Option ℕ) (s : ℕ) (rs : List Ready) (
   pub from : (q c : ℕ) → new q ≡ Some c → (old q ≡ Some c) ⊎ IsWorth value rs q c
 
 -- costs by state after the rules of the slots of all entries were tried
-pub record HasTriedAll (value : Ready → Option ℕ) (v : List StateCost) (at : ℕ → List Ready) (new : ℕ → Option ℕ) : Type 0 where
-  pub tried : (e : StateCost) (r : Ready) → Has v e → Has (at e.state) r → r.state ≡ e.state → IsNoGreater (new r.left) (value r)
+pub record HasTriedAll (value : Ready → Option ℕ) (v : List Entry) (at : ℕ → List Ready) (new : ℕ → Option ℕ) : Type 0 where
+  pub tried : (e : Entry) (r : Ready) → Has v e → Has (at e.state) r → r.state ≡ e.state → IsNoGreater (new r.left) (value r)
   pub from : (q c : ℕ) → new q ≡ Some c → (s : ℕ) × IsWorth value (at s) q c

@@ -6,18 +6,18 @@ ghost use Rattle.tib_grammar.specs.declared.Rule.{Rule};
 ghost use Rattle.tib_normal.specs.Rules.{positions_with};
 ghost use Rattle.tib_weigh.specs.Buckets.{AreRules};
 ghost use Rattle.tib_weigh.specs.Entries.{IsAscending};
-ghost use Rattle.tib_weigh.specs.LeastCosts.{IsBlank};
+ghost use Rattle.tib_weigh.specs.Found.{IsBlank};
 ghost use Rattle.tib_weigh.specs.Shapes.{AreTables, IsShape, IsIndex};
 ghost use Rattle.tib_weigh.specs.Vectors.{vectors, IsNodeVector, IsVectorOf};
 ghost use Rattle.tib_tree.specs.Trees.{none};
 ghost use Rattle.tib_grammar.specs.Forms.{AreNormal};
 ghost use Rattle.tib_grammar.specs.Range.{AreInRange};
 
-use crate::found::LeastCosts;
+use crate::found::Found;
 use crate::node::put_node_vector;
-use crate::table::SlotTable;
+use crate::table::Table;
 use crate::trying::try_table;
-use crate::vector::StateCost;
+use crate::vector::Entry;
 use std::alloc::{AllocError, Global};
 use std::collections::HashMap;
 use tib_cost::Semiring;
@@ -28,8 +28,8 @@ use tib_tree::Label;
 /// The rules of one label and rank: a table for each child place, and the vector of a leaf.
 #[derive(Drop)]
 pub(crate) struct Shape {
-    tables: Vec<SlotTable>,
-    leaf: Vec<StateCost>,
+    tables: Vec<Table>,
+    leaf: Vec<Entry>,
 }
 
 // The tables of the rules at these positions, one for each child place.
@@ -39,14 +39,14 @@ fn tables_of(
     positions: &[u32],
     rank: u32,
     states: u32,
-) -> Result<Vec<SlotTable>, AllocError>
+) -> Result<Vec<Table>, AllocError>
     requires normal { AreNormal rules.now }
     requires rules { AreRules rules.now rank positions.now }
     ensures { IfOk result (λ v. AreTables rules.now positions.now rank v.items) }
 {
     let mut tables = Vec::new(alloc);
     for place in 0..rank {
-        tables.push(SlotTable::new(alloc, rules, positions, place as usize, rank, states)?)?;
+        tables.push(Table::new(alloc, rules, positions, place as usize, rank, states)?)?;
     }
     Ok(tables)
 }
@@ -57,7 +57,7 @@ fn leaf_of<S: Semiring>(
     normal: &Normal<S>,
     label: Label,
     rank: u32,
-) -> Result<Vec<StateCost>, AllocError>
+) -> Result<Vec<Entry>, AllocError>
     ensures { IfOk result (λ v. rank ≡ 0 → IsVectorOf S.product normal.now.rules label none
         v.items) }
 {
@@ -94,14 +94,14 @@ impl Shape {
     }
 
     /// The vector of a leaf.
-    pub(crate) fn leaf(&self) -> &[StateCost]
+    pub(crate) fn leaf(&self) -> &[Entry]
         ensures { result.now ≡ self.now.leaf.items }
     {
         &self.leaf
     }
 
     // The child place whose states leave the fewest rules, as far as their number says.
-    fn best_place(&self, stack: &[Vec<StateCost>]) -> usize
+    fn best_place(&self, stack: &[Vec<Entry>]) -> usize
         requires some { 0 < length self.now.tables.items }
         requires enough { length self.now.tables.items ≤ length stack.now }
         ensures { result < length self.now.tables.items }
@@ -124,10 +124,10 @@ impl Shape {
         &self,
         rules: &[Rule<u32>],
         rank: u32,
-        stack: &[Vec<StateCost>],
-        found: &mut LeastCosts,
-        picked: &mut Vec<StateCost>,
-        vector: &mut Vec<StateCost>,
+        stack: &[Vec<Entry>],
+        found: &mut Found,
+        picked: &mut Vec<Entry>,
+        vector: &mut Vec<Entry>,
     ) -> Result<(), AllocError>
         requires normal { AreNormal rules.now }
         requires range { AreInRange (length found.old.costs.items) rules.now }
@@ -161,16 +161,16 @@ impl Shape {
 
 /// The rules of a grammar by label and rank.
 #[derive(Drop)]
-pub(crate) struct RuleIndex {
+pub(crate) struct Index {
     shapes: HashMap<(Label, u32), Shape>,
 }
 
-impl RuleIndex {
+impl Index {
     /// The empty index.
-    pub(crate) fn empty(alloc: Global) -> RuleIndex
+    pub(crate) fn empty(alloc: Global) -> Index
         ensures { (product : ℕ → ℕ → ℕ) → (rules : List (Rule ℕ)) → IsIndex product rules result }
     {
-        RuleIndex {
+        Index {
             shapes: HashMap::new(alloc),
         }
     }
@@ -199,10 +199,10 @@ impl RuleIndex {
     pub(crate) fn new<S: Semiring>(
         alloc: Global,
         normal: &Normal<S>,
-    ) -> Result<RuleIndex, AllocError>
+    ) -> Result<Index, AllocError>
         ensures { IfOk result (IsIndex S.product normal.now.rules) }
     {
-        let mut index = RuleIndex::empty(alloc);
+        let mut index = Index::empty(alloc);
         for rule in normal.grammar().rule_list() {
             if let Some(Item::Label { label, rank }) = rule.right.items().first() {
                 index.add(alloc, normal, *label, *rank)?;

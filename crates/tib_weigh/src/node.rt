@@ -10,7 +10,7 @@ ghost use Rattle.tib_weigh.specs.Entries.{cost_in, EndsBy, IsAscending};
 ghost use Rattle.tib_weigh.specs.Vectors.{times_all, vectors, IsNodeVector};
 ghost use Rattle.tib_grammar.specs.Items.{state_in};
 
-use crate::vector::{StateCost, add_cost, cost_at};
+use crate::vector::{Entry, add_cost, cost_at};
 use std::alloc::AllocError;
 use tib_cost::{Cost, Semiring};
 use tib_grammar::{Item, Rule};
@@ -28,7 +28,7 @@ fn times<S: Semiring>(a: Option<Cost>, b: Option<Cost>) -> Option<Cost>
 
 // The product of the costs of the last trees of the stack at the states of the holes. It ends at
 // the first state that has no cost.
-fn product_of<S: Semiring>(holes: &[Item<u32>], stack: &[Vec<StateCost>]) -> Option<Cost>
+fn product_of<S: Semiring>(holes: &[Item<u32>], stack: &[Vec<Entry>]) -> Option<Cost>
     requires enough { length holes.now ≤ length stack.now }
     requires ascend { Each IsAscending (vectors stack.now) }
     ensures { result ≡ times_all S.product (map state_in holes.now) (vectors stack.now) }
@@ -51,8 +51,8 @@ fn product_of<S: Semiring>(holes: &[Item<u32>], stack: &[Vec<StateCost>]) -> Opt
 // Adds the costs of runs that begin with a rule.
 fn add_rule<S: Semiring>(
     rule: &Rule<u32>,
-    stack: &[Vec<StateCost>],
-    vector: &mut Vec<StateCost>,
+    stack: &[Vec<Entry>],
+    vector: &mut Vec<Entry>,
 ) -> Result<(), AllocError>
     requires normal { IsNormalSide rule.now.right }
     requires enough { count rule.now.right.kids ≤ length stack.now }
@@ -80,8 +80,8 @@ pub(crate) fn put_node_vector<S: Semiring>(
     positions: &[u32],
     label: Label,
     rank: u32,
-    stack: &[Vec<StateCost>],
-    vector: &mut Vec<StateCost>,
+    stack: &[Vec<Entry>],
+    vector: &mut Vec<Entry>,
 ) -> Result<(), AllocError>
     requires normal { AreNormal rules.now }
     requires ascending { Ascends (λ r s. r.left ≤ s.left) rules.now }

@@ -2,12 +2,12 @@
 ghost use Rattle.std.specs.Prelude.{◌≡◌, ◌≤◌, length, take, IfOk};
 ghost use Rattle.tib_weigh.specs.Picks.{picks};
 
-use crate::table::SlotTable;
-use crate::vector::StateCost;
+use crate::table::Table;
+use crate::vector::Entry;
 use std::alloc::AllocError;
 
 // Makes a list as long as a vector, if it is shorter.
-fn make_room(picked: &mut Vec<StateCost>, vector: &[StateCost]) -> Result<(), AllocError>
+fn make_room(picked: &mut Vec<Entry>, vector: &[Entry]) -> Result<(), AllocError>
     ensures { IfOk result (λ _. length vector.now ≤ length picked.new.items) }
 {
     if picked.len() < vector.len() {
@@ -22,9 +22,9 @@ fn make_room(picked: &mut Vec<StateCost>, vector: &[StateCost]) -> Result<(), Al
 /// processor would mispredict every other time.
 #[inline(never)]
 pub(crate) fn pick(
-    table: &SlotTable,
-    vector: &[StateCost],
-    picked: &mut Vec<StateCost>,
+    table: &Table,
+    vector: &[Entry],
+    picked: &mut Vec<Entry>,
 ) -> Result<usize, AllocError>
     ensures within { IfOk result (λ n. n ≤ length picked.new.items) }
     ensures picked { IfOk result (λ n. take n picked.new.items ≡ picks table.now vector.now) }

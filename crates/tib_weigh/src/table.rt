@@ -15,13 +15,13 @@ const SLOTS_A_RULE: usize = 4;
 /// Some rules by the states at one of their child places, how many there are of a state on average,
 /// and whether many slots have none.
 #[derive(Drop)]
-pub(crate) struct SlotTable {
+pub(crate) struct Table {
     slots: Slots,
     average: usize,
     is_sparse: bool,
 }
 
-impl SlotTable {
+impl Table {
     /// The table of some rules of one rank at a child place, in a grammar of this number of states.
     /// It takes time and memory in proportion to the number of positions.
     pub(crate) fn new(
@@ -31,7 +31,7 @@ impl SlotTable {
         place: usize,
         rank: u32,
         states: u32,
-    ) -> Result<SlotTable, AllocError>
+    ) -> Result<Table, AllocError>
         requires normal { AreNormal rules.now }
         requires rules { AreRules rules.now rank positions.now }
         requires place { place < rank }
@@ -41,7 +41,7 @@ impl SlotTable {
         let many = most.min(states as usize).max(1);
         let slots = Slots::new(alloc, rules, positions, place, rank, many)?;
         let used = slots.used();
-        Ok(SlotTable {
+        Ok(Table {
             average: positions.len().div_ceil(used.max(1)),
             is_sparse: used.saturating_mul(4) < many.saturating_mul(3),
             slots,

@@ -5,17 +5,17 @@ ghost use Rattle.tib_lex.specs.Lists.{Each, Has};
 ghost use Rattle.tib_grammar.specs.Forms.{AreNormal};
 ghost use Rattle.tib_weigh.specs.Buckets.{IsRuleOver};
 ghost use Rattle.tib_weigh.specs.Entries.{cost_in, IsAscending};
-ghost use Rattle.tib_weigh.specs.LeastCosts.{cost_of, IsBlank, IsNoted};
+ghost use Rattle.tib_weigh.specs.Found.{cost_of, IsBlank, IsNoted};
 ghost use Rattle.tib_weigh.specs.Tables.{bucket};
 ghost use Rattle.tib_weigh.specs.Vectors.{vectors};
 ghost use Rattle.tib_weigh.specs.Worth.{times_beside, rest_worth, worth, HasTried, HasTriedAll, IsRemembered, AreSound};
 ghost use Rattle.tib_grammar.specs.Items.{state_in};
 
-use crate::found::LeastCosts;
+use crate::found::Found;
 use crate::picking::pick;
 use crate::ready::Ready;
-use crate::table::SlotTable;
-use crate::vector::{StateCost, cost_at};
+use crate::table::Table;
+use crate::vector::{Entry, cost_at};
 use std::alloc::AllocError;
 use tib_cost::{Cost, Semiring};
 use tib_grammar::{Item, Rule};
@@ -36,7 +36,7 @@ pub(crate) struct Rest {
 #[inline(never)]
 fn product_beside<S: Semiring>(
     holes: &[Item<u32>],
-    stack: &[Vec<StateCost>],
+    stack: &[Vec<Entry>],
     place: usize,
 ) -> Option<Cost>
     requires enough { length holes.now ≤ length stack.now }
@@ -66,7 +66,7 @@ fn product_beside<S: Semiring>(
 fn recall<S: Semiring>(
     last: &mut Rest,
     rules: &[Rule<u32>],
-    stack: &[Vec<StateCost>],
+    stack: &[Vec<Entry>],
     place: usize,
     rank: u32,
     position: u32,
@@ -104,7 +104,7 @@ fn product_with<S: Semiring>(cost: Cost, beside: Option<Cost>, own: Cost) -> Opt
 }
 
 // Lowers the cost at a state to this one, where there is one.
-fn lower(found: &mut LeastCosts, state: u32, cost: Option<Cost>) -> Result<(), AllocError>
+fn lower(found: &mut Found, state: u32, cost: Option<Cost>) -> Result<(), AllocError>
     requires within { state < length found.old.costs.items }
     requires noted { IsNoted found.old }
     ensures noted { IfOk result (λ _. IsNoted found.new) }
@@ -120,12 +120,12 @@ fn lower(found: &mut LeastCosts, state: u32, cost: Option<Cost>) -> Result<(), A
 
 // Tries the rules of a slot for the state of an entry of the vector at the child place.
 fn try_slot<S: Semiring>(
-    found: &mut LeastCosts,
+    found: &mut Found,
     last: &mut Rest,
     ready: &[Ready],
-    entry: &StateCost,
+    entry: &Entry,
     rules: &[Rule<u32>],
-    stack: &[Vec<StateCost>],
+    stack: &[Vec<Entry>],
     place: usize,
     rank: u32,
 ) -> Result<(), AllocError>
@@ -158,18 +158,18 @@ fn try_slot<S: Semiring>(
 // separately from its callers, so that what its loop needs stays in registers.
 #[inline(never)]
 fn try_entries<S: Semiring>(
-    found: &mut LeastCosts,
-    table: &SlotTable,
-    entries: &[StateCost],
+    found: &mut Found,
+    table: &Table,
+    entries: &[Entry],
     rules: &[Rule<u32>],
-    stack: &[Vec<StateCost>],
+    stack: &[Vec<Entry>],
     place: usize,
     rank: u32,
 ) -> Result<(), AllocError>
     requires normal { AreNormal rules.now }
     requires sound { (q : ℕ) → AreSound rules.now rank (length found.old.costs.items)
         (bucket table.now q) }
-    requires here { (e : StateCost) → Has entries.now e →
+    requires here { (e : Entry) → Has entries.now e →
         cost_in (get_or (vectors stack.now) place []) e.state ≡ Some e.cost }
     requires enough { rank ≤ length stack.now }
     requires ascend { Each IsAscending (vectors stack.now) }
@@ -193,11 +193,11 @@ fn try_entries<S: Semiring>(
 /// Tries the rules of a table at a child place that the vector there serves. The list lends its
 /// room only: what it holds is ignored.
 pub(crate) fn try_table<S: Semiring>(
-    found: &mut LeastCosts,
-    picked: &mut Vec<StateCost>,
-    table: &SlotTable,
+    found: &mut Found,
+    picked: &mut Vec<Entry>,
+    table: &Table,
     rules: &[Rule<u32>],
-    stack: &[Vec<StateCost>],
+    stack: &[Vec<Entry>],
     place: usize,
     rank: u32,
 ) -> Result<(), AllocError>

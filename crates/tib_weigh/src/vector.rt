@@ -10,13 +10,13 @@ use tib_cost::Cost;
 
 /// A state, and the least cost of a run from it.
 #[derive(Clone, Copy, Debug)]
-pub struct StateCost {
+pub struct Entry {
     pub state: u32,
     pub cost: Cost,
 }
 
 // The first place from which on no state is below this one, found by halving.
-fn place_of(vector: &[StateCost], state: u32) -> usize
+fn place_of(vector: &[Entry], state: u32) -> usize
     requires { IsAscending vector.now }
     ensures within { result ≤ length vector.now }
     ensures passed { cost_in (drop result vector.now) state ≡ cost_in vector.now state }
@@ -36,7 +36,7 @@ fn place_of(vector: &[StateCost], state: u32) -> usize
 }
 
 /// The cost at a state.
-pub(crate) fn cost_at(vector: &[StateCost], state: u32) -> Option<Cost>
+pub(crate) fn cost_at(vector: &[Entry], state: u32) -> Option<Cost>
     requires { IsAscending vector.now }
     ensures { result ≡ cost_in vector.now state }
 {
@@ -61,7 +61,7 @@ pub(crate) fn lesser(a: Cost, b: Cost) -> Cost
 
 /// Lowers the cost at the last state to this one, or puts a further state last.
 pub(crate) fn add_cost(
-    vector: &mut Vec<StateCost>,
+    vector: &mut Vec<Entry>,
     state: u32,
     cost: Cost,
 ) -> Result<(), AllocError>
@@ -74,15 +74,15 @@ pub(crate) fn add_cost(
         cost_in vector.old.items q)) }
 {
     let Some(last) = vector.pop() else {
-        vector.push(StateCost { state, cost })?;
+        vector.push(Entry { state, cost })?;
         return Ok(());
     };
     if last.state == state {
         let cost = lesser(last.cost, cost);
-        vector.push(StateCost { state, cost })?;
+        vector.push(Entry { state, cost })?;
     } else {
         vector.push(last)?;
-        vector.push(StateCost { state, cost })?;
+        vector.push(Entry { state, cost })?;
     }
     Ok(())
 }

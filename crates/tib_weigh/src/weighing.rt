@@ -5,15 +5,15 @@ ghost use Rattle.std.specs.List.{AllZip};
 ghost use Rattle.std.specs.Thread.{IsSync};
 ghost use Rattle.tib_lex.specs.Lists.{Each};
 ghost use Rattle.tib_weigh.specs.Entries.{IsAscending};
-ghost use Rattle.tib_weigh.specs.LeastCosts.{IsBlank};
+ghost use Rattle.tib_weigh.specs.Found.{IsBlank};
 ghost use Rattle.tib_weigh.specs.Shapes.{IsIndex};
 ghost use Rattle.tib_weigh.specs.Vectors.{vectors, IsNodeVector};
 
-use crate::found::LeastCosts;
-use crate::index::RuleIndex;
+use crate::found::Found;
+use crate::index::Index;
 use crate::node::put_node_vector;
 use crate::pieces::{LEAST_PIECE, halvings, middle_of, nodes_of};
-use crate::vector::{StateCost, cost_at};
+use crate::vector::{Entry, cost_at};
 use std::alloc::{AllocError, Global};
 use std::thread::{Threads, join};
 use tib_cost::{Cost, Semiring};
@@ -24,9 +24,9 @@ use tib_tree::{Label, Tree};
 // that no tree needs any more.
 #[derive(Drop)]
 struct Room {
-    found: LeastCosts,
-    picked: Vec<StateCost>,
-    spare: Vec<Vec<StateCost>>,
+    found: Found,
+    picked: Vec<Entry>,
+    spare: Vec<Vec<Entry>>,
 }
 
 impl Room {
@@ -36,14 +36,14 @@ impl Room {
         ensures long { IfOk result (λ r. length r.found.costs.items ≡ states) }
     {
         Ok(Room {
-            found: LeastCosts::new(alloc, states)?,
+            found: Found::new(alloc, states)?,
             picked: Vec::new(alloc),
             spare: Vec::new(alloc),
         })
     }
 
     // An empty vector.
-    fn vector(&mut self, alloc: Global) -> Vec<StateCost>
+    fn vector(&mut self, alloc: Global) -> Vec<Entry>
         ensures empty { result.items ≡ [] }
         ensures found { self.new.found ≡ self.old.found }
     {
@@ -55,7 +55,7 @@ impl Room {
     }
 
     // Takes vectors off the stack, as many as asked, and keeps them.
-    fn keep(&mut self, stack: &mut Vec<Vec<StateCost>>, count: u32) -> Result<(), AllocError>
+    fn keep(&mut self, stack: &mut Vec<Vec<Entry>>, count: u32) -> Result<(), AllocError>
         ensures stack { IfOk result (λ _. stack.new.items ≡ take (vec_len stack.old - count)
             stack.old.items) }
         ensures found { IfOk result (λ _. self.new.found ≡ self.old.found) }
@@ -73,13 +73,13 @@ impl Room {
 // index has for its label and rank, else from all rules of these.
 fn put_vector_at<S: Semiring>(
     normal: &Normal<S>,
-    index: &RuleIndex,
-    found: &mut LeastCosts,
-    picked: &mut Vec<StateCost>,
+    index: &Index,
+    found: &mut Found,
+    picked: &mut Vec<Entry>,
     label: Label,
     rank: u32,
-    stack: &[Vec<StateCost>],
-    vector: &mut Vec<StateCost>,
+    stack: &[Vec<Entry>],
+    vector: &mut Vec<Entry>,
 ) -> Result<(), AllocError>
     requires index { IsIndex S.product normal.now.rules index.now }
     requires enough { rank ≤ length stack.now }
@@ -110,7 +110,7 @@ fn put_vector_at<S: Semiring>(
 fn weigh_by<S: Semiring>(
     alloc: Global,
     normal: &Normal<S>,
-    index: &RuleIndex,
+    index: &Index,
     room: &mut Room,
     tree: &Tree,
 ) -> Result<Option<Cost>, AllocError>
@@ -122,7 +122,7 @@ fn weigh_by<S: Semiring>(
     ensures long { IfOk result (λ _. length room.new.found.costs.items ≡ length normal.now.names) }
 {
     let nodes = tree.nodes();
-    let mut stack: Vec<Vec<StateCost>> = Vec::new(alloc);
+    let mut stack: Vec<Vec<Entry>> = Vec::new(alloc);
     let mut i = nodes.len();
     while i > 0 {
         i -= 1;
@@ -151,13 +151,13 @@ fn index_for<S: Semiring>(
     alloc: Global,
     normal: &Normal<S>,
     nodes: usize,
-) -> Result<RuleIndex, AllocError>
+) -> Result<Index, AllocError>
     ensures { IfOk result (IsIndex S.product normal.now.rules) }
 {
     if nodes < normal.grammar().rule_list().len() {
-        return Ok(RuleIndex::empty(alloc));
+        return Ok(Index::empty(alloc));
     }
-    RuleIndex::new::<S>(alloc, normal)
+    Index::new::<S>(alloc, normal)
 }
 
 /// The least cost at most 10^15 of a run of the grammar from its start that yields the tree, and
@@ -181,7 +181,7 @@ pub fn weigh<S: Semiring>(
 fn weigh_each<S: Semiring>(
     alloc: Global,
     normal: &Normal<S>,
-    index: &RuleIndex,
+    index: &Index,
     trees: &[Tree],
 ) -> Result<Vec<Option<Cost>>, AllocError>
     requires { IsIndex S.product normal.now.rules index.now }
@@ -212,7 +212,7 @@ fn weigh_halves<S: Semiring + Sync, R: Threads + Sync>(
     rt: &R,
     alloc: Global,
     normal: &Normal<S>,
-    index: &RuleIndex,
+    index: &Index,
     trees: &[Tree],
     times: u32,
 ) -> Result<Vec<Option<Cost>>, AllocError>

@@ -47,8 +47,7 @@ returns-in-Ok-to_grammar-clause-grammar g c =
     let canonical : IsCanonicalOf g.S.Semiring.product g.S.Semiring.SCALE c.args.labels.now c.args.limit (parsing c.args.transducer.now c.args.string.now) c.in-Ok-to_grammar.canonical.grammar =
     canonical_of g.S.Semiring.product g.S.Semiring.SCALE c.args.limit c.args.labels.now c.args.transducer.now c.args.string.now c.in-Ok.found.order.items c.in-Ok.found.rules.items c.in-Ok-to_grammar.canonical.grammar c.requires.transducer
     (IfOk-at_ok _ c.in-Ok.is c.requires.reached) (IfOk-at_ok _ c.in-Ok.is c.requires.range) (omega (arith, (IfOk-at_ok _ c.in-Ok.is c.requires.parts), (IfOk-at_ok _ c.in-Ok.is c.requires.within))) c.in-Ok-to_grammar.ensures.canonical
-    in
-    (
+    in (
       record {
         h = c.in-Ok-to_grammar.canonical.grammar;
         canonical = record { from = c.args.string.now; is_made = refl; canonical = canonical };

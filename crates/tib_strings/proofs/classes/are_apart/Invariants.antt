@@ -1,5 +1,5 @@
 use Rattle.std.proofs.Common.{drop}
-use Rattle.tib_lex.specs.ListSides.{Distinct}
+use Rattle.tib_lex.specs.Lists.{Distinct}
 use Rattle.tib_strings.specs.Rules.{variables_in}
 use Rattle.tib_strings.proofs.classes.are_apart.Given as goal
 

@@ -1,5 +1,5 @@
 use Rattle.std.proofs.Common.{drop}
-use Rattle.tib_lex.specs.ListSides.{Has}
+use Rattle.tib_lex.specs.Lists.{Has}
 use Rattle.tib_strings.specs.Rules.{variables_in}
 use Rattle.tib_strings.proofs.classes.stands_among.Given as goal
 

@@ -1,6 +1,6 @@
 use Rattle.std.proofs.Common.{◌≤◌, ◌+◌, length, take, map}
 use Rattle.tib_lex.specs.Line.{words_at}
-use Rattle.tib_lex.specs.ListSides.{Along}
+use Rattle.tib_lex.specs.Lists.{Along}
 use Rattle.tib_tree.specs.Grows.{Grows, AddsAll}
 use Rattle.tib_strings.specs.Listed.{item_of, texts_of, IsNamed}
 use Rattle.tib_strings.proofs.list.intern_words.Given as goal

@@ -1,6 +1,6 @@
 use Rattle.std.proofs.Common.{arith, ◌∙◌, sym, ap, subst, refl, length, List, ◌+◌}
 use Rattle.std.specs.List.{All, list_any}
-use Rattle.tib_grammar_file.specs.RootAndWeight.{text_at}
+use Rattle.tib_grammar_file.specs.Found.{text_at}
 use Rattle.tib_transducer_file.specs.Forms.{is_stray}
 use Rattle.std.proofs.lemmas.List.{take_rest}
 use Rattle.std.proofs.lemmas.List.Elements.{All-drop}

@@ -1,6 +1,6 @@
 use Rattle.std.proofs.Common.{arith}
 use Rattle.indexmap.specs.IndexSet.{keys}
-use Rattle.tib_transducer_file.specs.RootAndWeight.{variable_at}
+use Rattle.tib_transducer_file.specs.Found.{variable_at}
 use Rattle.tib_transducer_file.proofs.VariablesUsed.{reading_skips, reading_goes, reading_fails}
 use Rattle.tib_transducer_file.proofs.parts.read_variables.Goals as goal
 

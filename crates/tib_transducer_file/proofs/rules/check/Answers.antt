@@ -1,5 +1,5 @@
 use Rattle.indexmap.specs.IndexSet.{keys}
-use Rattle.tib_grammar_file.specs.RootAndWeight.{text_at}
+use Rattle.tib_grammar_file.specs.Found.{text_at}
 use Rattle.tib_transducer_file.specs.Reader.{parts_found}
 use Rattle.tib_transducer_file.proofs.LinesRead.{check_failed}
 use Rattle.tib_transducer_file.proofs.rules.check.Goals as goal

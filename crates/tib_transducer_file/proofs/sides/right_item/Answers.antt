@@ -4,7 +4,7 @@ use Rattle.tib_lex.specs.Line.{word_at}
 use Rattle.tib_tree.specs.Grows.{Adds, AddsAll}
 use Rattle.tib_tree.specs.Shape.{item_at}
 use Rattle.tib_tree.proofs.NodesRead.{item_text}
-use Rattle.tib_transducer_file.specs.RootAndWeight.{pair_at}
+use Rattle.tib_transducer_file.specs.Found.{pair_at}
 use Rattle.tib_transducer_file.specs.Value.{right_text}
 use Rattle.tib_transducer_file.proofs.sides.right_item.Goals as goal
 

@@ -1,6 +1,6 @@
 use Rattle.std.proofs.Common.{◌∙◌, ap}
 use Rattle.std.specs.Prelude.{Err}
-use Rattle.tib_tree.specs.TreeSides.{first_of, parse, preorder-first}
+use Rattle.tib_tree.specs.Trees.{first_of, parse, preorder-first}
 use Rattle.tib_grammar.specs.Sides.{label}
 use Rattle.tib_grammar.specs.Items.{pairs_of}
 use Rattle.tib_transducer_file.proofs.trees.right_side.Goals as goal

@@ -1,7 +1,7 @@
 use Rattle.std.proofs.Common.{arith, ◌≡◌, ◌∙◌, ◌∷◌, ◌++◌, ◌<◌, ◌≤◌, List, [], ap, sym, length, length-set, take, slice_set}
 use Rattle.std.proofs.lemmas.List.{take_more_set, take-set}
-use Rattle.tib_weigh.specs.declared.vector.StateCost.{StateCost}
-use Rattle.tib_weigh.specs.declared.table.SlotTable.{SlotTable}
+use Rattle.tib_weigh.specs.declared.vector.Entry.{Entry}
+use Rattle.tib_weigh.specs.declared.table.Table.{Table}
 use Rattle.tib_weigh.specs.Picks.{picks}
 use Rattle.tib_weigh.proofs.Picks.{pick_more, pick_none}
 use Rattle.tib_weigh.proofs.Tries.{taken}
@@ -10,12 +10,12 @@ use Rattle.tib_weigh.proofs.picking.pick.Goals as goal
 
 pub loop-entry-preserved : goal.loop-entry-preserved
 loop-entry-preserved c =
-    let table : SlotTable = c.args.table.now in
-    let vector : List StateCost = c.args.vector.now in
+    let table : Table = c.args.table.now in
+    let vector : List Entry = c.args.vector.now in
     let i = c.loop-entry.entry-index in
     let many = c.loop-entry.many in
-    let before : List StateCost = c.loop-entry.picked.items in
-    let entry : StateCost = c.entry-item.result in
+    let before : List Entry = c.loop-entry.picked.items in
+    let entry : Entry = c.entry-item.result in
     let was = c.loop-entry.invariant in
     let room : many < length before = omega (arith, was.few, was.long, c.loop-entry-test.true) in
     let long : length vector ≤ length (slice_set before many entry) = omega (arith, was.long, length-set before many entry) in

@@ -1,6 +1,6 @@
 use Rattle.std.proofs.Common.{◌∙◌, take}
 use Rattle.tib_weigh.specs.Vectors.{vectors}
-use Rattle.tib_weigh.specs.LeastCosts.{cost_of}
+use Rattle.tib_weigh.specs.Found.{cost_of}
 use Rattle.tib_weigh.specs.Tables.{bucket}
 use Rattle.tib_weigh.specs.Worth.{worth, HasTriedAll}
 use Rattle.tib_weigh.proofs.Tries.{taken, all_more, has_item}

@@ -1,7 +1,7 @@
 use Rattle.std.specs.Prelude.{Option, Some}
 use Rattle.std.proofs.Common.{arith, ◌≡◌, ℕ, [], get_or, sym, ◌∙◌, ap, take}
 use Rattle.tib_weigh.specs.Vectors.{vectors}
-use Rattle.tib_weigh.specs.LeastCosts.{cost_of}
+use Rattle.tib_weigh.specs.Found.{cost_of}
 use Rattle.tib_weigh.specs.Worth.{rest_worth, worth, HasTried}
 use Rattle.tib_weigh.specs.Entries.{cost_in}
 use Rattle.tib_cost.specs.Least.{times}

@@ -1,5 +1,5 @@
 use Rattle.std.proofs.Common.{◌≡◌, length, take}
-use Rattle.tib_weigh.specs.LeastCosts.{cost_of, IsNoted}
+use Rattle.tib_weigh.specs.Found.{cost_of, IsNoted}
 use Rattle.tib_weigh.specs.Vectors.{vectors}
 use Rattle.tib_weigh.specs.Worth.{worth, IsRemembered, HasTried}
 use Rattle.tib_weigh.proofs.trying.try_slot.Given as goal

@@ -1,17 +1,17 @@
 use Rattle.std.proofs.Common.{arith, ◌≡◌, List, [], ◌∷◌, ◌++◌, ℕ, min, subst}
 use Rattle.tib_weigh.specs.Entries.{IsAscending, EndsBy}
-use Rattle.tib_weigh.specs.declared.vector.StateCost.{StateCost}
+use Rattle.tib_weigh.specs.declared.vector.Entry.{Entry}
 use Rattle.tib_weigh.proofs.EntryLemmas.{Added, added_over, added_after}
 use Rattle.tib_weigh.proofs.vector.add_cost.Goals as goal
 
 -- the cost at the last state was lowered
-over : (old front new : List StateCost) (x : StateCost) (q c least : ℕ) → IsAscending old → old ≡ front ++ x ∷ [] → x.state ≡ q → least ≡ min x.cost c → new ≡ front ++ record { state = q; cost = least } ∷ [] → Added old new q c
+over : (old front new : List Entry) (x : Entry) (q c least : ℕ) → IsAscending old → old ≡ front ++ x ∷ [] → x.state ≡ q → least ≡ min x.cost c → new ≡ front ++ record { state = q; cost = least } ∷ [] → Added old new q c
 over old front new x q c least a popped same e pushed =
     let asc : IsAscending (front ++ x ∷ []) = subst IsAscending popped a in
     rw (popped, pushed, e) (added_over front x q c asc same)
 
 -- a further state went last
-after : (old front back new : List StateCost) (x : StateCost) (q c : ℕ) → IsAscending old → EndsBy q old → old ≡ front ++ x ∷ [] → (x.state ≡ q → ⊥) → back ≡ front ++ x ∷ [] → new ≡ back ++ record { state = q; cost = c } ∷ [] → Added old new q c
+after : (old front back new : List Entry) (x : Entry) (q c : ℕ) → IsAscending old → EndsBy q old → old ≡ front ++ x ∷ [] → (x.state ≡ q → ⊥) → back ≡ front ++ x ∷ [] → new ≡ back ++ record { state = q; cost = c } ∷ [] → Added old new q c
 after old front back new x q c a b popped other first second =
     let asc : IsAscending (front ++ x ∷ []) = subst IsAscending popped a in
     let ends : EndsBy q (front ++ x ∷ []) = subst (EndsBy q) popped b in

@@ -1,5 +1,5 @@
 use Rattle.std.proofs.Common.{arith, ℕ, ◌+◌, ◌-◌, ◌/◌, ◌<◌, ◌≤◌, ap, get_or}
-use Rattle.tib_weigh.specs.declared.vector.StateCost.{StateCost}
+use Rattle.tib_weigh.specs.declared.vector.Entry.{Entry}
 use Rattle.tib_weigh.proofs.EntryLemmas.{passed_at, rest_from}
 use Rattle.tib_weigh.proofs.vector.place_of.Goals as goal
 
@@ -7,7 +7,7 @@ pub loop-low-preserved-then-vector-middle : goal.loop-low-preserved-then-vector-
 loop-low-preserved-then-vector-middle c =
     let e = c.index-vector-middle.result in
     let m : ℕ = c.loop-low.low + (c.loop-low.high - c.loop-low.low) / 2 in
-    let lt : (get_or c.args.vector.now m e).state < c.args.state = omega (arith, c.if-vector-middle.true, ap (λ (x : StateCost). x.state) c.index-vector-middle.is) in
+    let lt : (get_or c.args.vector.now m e).state < c.args.state = omega (arith, c.if-vector-middle.true, ap (λ (x : Entry). x.state) c.index-vector-middle.is) in
     record {
       ordered = omega arith;
       within = c.loop-low.invariant.within;
@@ -19,7 +19,7 @@ pub loop-low-preserved : goal.loop-low-preserved
 loop-low-preserved c =
     let e = c.index-vector-middle.result in
     let m : ℕ = c.loop-low.low + (c.loop-low.high - c.loop-low.low) / 2 in
-    let le : c.args.state ≤ (get_or c.args.vector.now m e).state = omega (arith, c.if-vector-middle.false, ap (λ (x : StateCost). x.state) c.index-vector-middle.is) in
+    let le : c.args.state ≤ (get_or c.args.vector.now m e).state = omega (arith, c.if-vector-middle.false, ap (λ (x : Entry). x.state) c.index-vector-middle.is) in
     record {
       ordered = omega arith;
       within = omega arith;

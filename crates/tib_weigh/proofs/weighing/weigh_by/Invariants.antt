@@ -1,7 +1,7 @@
 use Rattle.std.proofs.Common.{◌≡◌, ◌≤◌, length, drop}
 use Rattle.tib_tree.specs.Trees.{parse}
 use Rattle.tib_tree.specs.Pairs.{pairs_of}
-use Rattle.tib_weigh.specs.LeastCosts.{IsBlank}
+use Rattle.tib_weigh.specs.Found.{IsBlank}
 use Rattle.tib_weigh.specs.Vectors.{vectors, Weighed}
 use Rattle.tib_weigh.proofs.weighing.weigh_by.Given as goal
 

@@ -1,7 +1,7 @@
 use Rattle.std.proofs.Common.{◌≡◌, length, take}
 use Rattle.std.specs.List.{AllZip}
 use Rattle.tib_grammar.specs.Series.{IsSeries}
-use Rattle.tib_weigh.specs.LeastCosts.{IsBlank}
+use Rattle.tib_weigh.specs.Found.{IsBlank}
 use Rattle.tib_weigh.proofs.weighing.weigh_each.Given as goal
 
 abbrev pub invariant-loop-tree : goal.invariant-loop-tree

@@ -1,6 +1,6 @@
 use Rattle.std.proofs.Common.{arith, ◌≤◌, ◌<◌, length}
 use Rattle.tib_tree.specs.Trees.{count}
-use Rattle.tib_weigh.specs.LeastCosts.{cost_of}
+use Rattle.tib_weigh.specs.Found.{cost_of}
 use Rattle.tib_weigh.specs.Vectors.{vectors}
 use Rattle.tib_weigh.proofs.Zipped.{ok_two}
 use Rattle.tib_weigh.proofs.Stacks.{length-vectors}

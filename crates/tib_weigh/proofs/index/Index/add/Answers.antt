@@ -1,7 +1,7 @@
 use Rattle.std.specs.HashMap.{get}
-use Rattle.tib_normal.specs.RuleIndex.{same_shape}
+use Rattle.tib_normal.specs.Index.{same_shape}
 use Rattle.tib_weigh.proofs.Served.{index_more}
-use Rattle.tib_weigh.proofs.index.RuleIndex.add.Goals as goal
+use Rattle.tib_weigh.proofs.index.Index.add.Goals as goal
 
 pub returns : goal.returns
 returns g c =
