@@ -5,7 +5,7 @@ ghost use Rattle.tib_expand.specs.Found.{IsFound, AreWithinOrder, HasParts};
 ghost use Rattle.tib_expand.specs.Reached.{IfTooMany, IsBeyond, most_parts};
 ghost use Rattle.tib_hunt.specs.States.{IsBetweenRounds};
 
-use crate::rounds::{round_alone, round_together};
+use crate::one_round::{round_alone, round_together};
 use crate::state::{HuntState, list_keys};
 use std::alloc::{AllocError, Global};
 use std::sync::Wait;
