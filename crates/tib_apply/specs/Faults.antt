@@ -1,5 +1,6 @@
 -- Which error of an application comes of an error of the test of classes, and of one of a hunt.
-use Rattle.tib_expand.specs.Reached.{HuntError, TooMany as OfParts, OutOfMemory as OfHuntMemory}
+use Rattle.tib_expand.specs.declared.error.HuntError.TheVariants.{TooMany as OfParts, OutOfMemory as OfHuntMemory}
+use Rattle.tib_expand.specs.declared.error.HuntError.{HuntError}
 use Rattle.tib_transducer.specs.declared.error.ClassError.{ClassError}
 use Rattle.tib_transducer.specs.declared.error.ClassError.TheVariants.{Class as OfRule, OutOfMemory as OfMemory}
 use Rattle.tib_apply.specs.declared.error.ApplyError.{ApplyError}

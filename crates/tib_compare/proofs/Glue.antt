@@ -5,7 +5,10 @@ use Rattle.tib_lex.proofs.Lists.{length_map}
 use Rattle.tib_tree.specs.Trees.{Tree}
 use Rattle.tib_grammar.specs.GrammarOf.{GrammarOf}
 use Rattle.tib_grammar.specs.declared.Rule.{Rule}
-use Rattle.tib_expand.specs.Reached.{IfTooMany, IsBeyond, HuntError, TooMany, OutOfMemory}
+use Rattle.tib_expand.specs.Reached.{IsBeyond}
+use Rattle.tib_expand.specs.Limits.{IfTooMany}
+use Rattle.tib_expand.specs.declared.error.HuntError.TheVariants.{TooMany, OutOfMemory}
+use Rattle.tib_expand.specs.declared.error.HuntError.{HuntError}
 use Rattle.tib_determinize.specs.Vectors.{VectorOf}
 use Rattle.tib_determinize.specs.Determinization.{determinization}
 use Rattle.tib_compare.specs.Compared.{HasCost}

@@ -2,7 +2,9 @@
 use Rattle.std.specs.Prelude.{◌≡◌, ℕ, ◌≤◌, max, List, length}
 use Rattle.tib_grammar.specs.GrammarOf.{GrammarOf}
 use Rattle.tib_grammar.specs.declared.Rule.{Rule}
-use Rattle.tib_expand.specs.Reached.{Exploration, IsReachedSet, IsBeyond, parts_of, HuntError, TooMany as HuntedTooMany, OutOfMemory as HuntedOutOfMemory}
+use Rattle.tib_expand.specs.Reached.{Exploration, IsReachedSet, IsBeyond, parts_of}
+use Rattle.tib_expand.specs.declared.error.HuntError.TheVariants.{TooMany as HuntedTooMany, OutOfMemory as HuntedOutOfMemory}
+use Rattle.tib_expand.specs.declared.error.HuntError.{HuntError}
 use Rattle.tib_determinize.specs.Vectors.{VectorOf}
 use Rattle.tib_determinize.specs.Determinization.{determinization}
 use Rattle.tib_compare.specs.Beside.{beside}

@@ -1,6 +1,8 @@
 -- Why a composition returns nothing, by the error of the test of classes or of the hunt.
 use Rattle.std.specs.Prelude.{ℕ, List, true}
-use Rattle.tib_expand.specs.Reached.{IfTooMany, HuntError, TooMany as OfParts, OutOfMemory as OfHuntMemory}
+use Rattle.tib_expand.specs.Limits.{IfTooMany}
+use Rattle.tib_expand.specs.declared.error.HuntError.TheVariants.{TooMany as OfParts, OutOfMemory as OfHuntMemory}
+use Rattle.tib_expand.specs.declared.error.HuntError.{HuntError}
 use Rattle.tib_transducer.specs.declared.TransducerRule.{TransducerRule}
 use Rattle.tib_transducer.specs.Outside.{demands, AllMeet}
 use Rattle.tib_transducer.specs.Faults.{IsClassFault}

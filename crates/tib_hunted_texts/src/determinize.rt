@@ -3,7 +3,8 @@ ghost use Rattle.std.specs.Prelude.{◌≡◌, ◌<◌, ◌≤◌, ◌^◌, leng
 ghost use Rattle.tib_grammar_file.specs.GrammarText.{GrammarText};
 ghost use Rattle.tib_grammar_file.specs.Printable.{ArePrintable};
 ghost use Rattle.tib_grammar_file.specs.Printed.{grammar_text};
-ghost use Rattle.tib_expand.specs.Reached.{IfTooMany, IsBeyond};
+ghost use Rattle.tib_expand.specs.Reached.{IsBeyond};
+ghost use Rattle.tib_expand.specs.Limits.{IfTooMany};
 ghost use Rattle.tib_canon.specs.Constructions.{IsCanonicalOf};
 ghost use Rattle.tib_determinize.specs.Answered.{HasParts, IsAnswer};
 ghost use Rattle.tib_determinize.specs.Determinization.{determinization};

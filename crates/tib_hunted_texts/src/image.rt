@@ -1,6 +1,7 @@
 // `image`: the canonical grammar of all outputs of a transducer on one tree.
 ghost use Rattle.std.specs.Prelude.{◌≤◌, length, IfErr, IfOk};
-ghost use Rattle.tib_expand.specs.Reached.{IfTooMany, IsBeyond};
+ghost use Rattle.tib_expand.specs.Reached.{IsBeyond};
+ghost use Rattle.tib_expand.specs.Limits.{IfTooMany};
 ghost use Rattle.tib_image.specs.Answered.{IsImage, AreOverOrder, HasParts};
 ghost use Rattle.tib_image.specs.Image.{image_of};
 ghost use Rattle.tib_operations.specs.Image.{image_makes, HasImageText, IsImageText};

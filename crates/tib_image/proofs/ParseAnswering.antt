@@ -4,7 +4,10 @@ use Rattle.std.proofs.Common.{arith, subst}
 use Rattle.std.proofs.lemmas.List.{length-map}
 use Rattle.tib_grammar.specs.GrammarOf.{named_rule}
 use Rattle.tib_grammar.specs.declared.Rule.{Rule}
-use Rattle.tib_expand.specs.Reached.{IsReachedSet, IsBeyond, IfTooMany, parts_of, HuntError, TooMany as OfParts, OutOfMemory as OfHuntMemory}
+use Rattle.tib_expand.specs.Reached.{IsReachedSet, IsBeyond, parts_of}
+use Rattle.tib_expand.specs.Limits.{IfTooMany}
+use Rattle.tib_expand.specs.declared.error.HuntError.TheVariants.{TooMany as OfParts, OutOfMemory as OfHuntMemory}
+use Rattle.tib_expand.specs.declared.error.HuntError.{HuntError}
 use Rattle.tib_expand.specs.Keys.{key_parts}
 use Rattle.tib_key_edges.proofs.Limits.{each_counts}
 use Rattle.tib_transducer.specs.declared.error.ClassError.{ClassError}

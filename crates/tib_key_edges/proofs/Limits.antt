@@ -2,7 +2,9 @@
 use Rattle.std.specs.Prelude.{◌≡◌, ℕ, ◌<◌, ◌≤◌, List, [], ◌∷◌, length}
 use Rattle.std.proofs.Common.{subst, arith}
 use Rattle.tib_lex.specs.Lists.{total}
-use Rattle.tib_expand.specs.Reached.{IfTooMany, HuntError, TooMany}
+use Rattle.tib_expand.specs.Limits.{IfTooMany}
+use Rattle.tib_expand.specs.declared.error.HuntError.TheVariants.{TooMany}
+use Rattle.tib_expand.specs.declared.error.HuntError.{HuntError}
 
 -- too many is the limit, and what is promised of it holds
 pub too_many : (limit n : ℕ) (P : Type 0) (e : HuntError) → e ≡ TooMany n → IfTooMany limit P e → (n ≡ limit) × P

@@ -4,7 +4,10 @@ use Rattle.tib_cost.specs.declared.Scale.{Scale}
 use Rattle.std.proofs.Common.{◌≡◌, ℕ, ◌<◌, ◌≤◌, List, subst, arith, inl, inr}
 use Rattle.tib_grammar.specs.GrammarOf.{GrammarOf}
 use Rattle.tib_normal.specs.NormalForm.{normal_parts}
-use Rattle.tib_expand.specs.Reached.{parts_of, IfTooMany, HuntError, TooMany}
+use Rattle.tib_expand.specs.Reached.{parts_of}
+use Rattle.tib_expand.specs.Limits.{IfTooMany}
+use Rattle.tib_expand.specs.declared.error.HuntError.TheVariants.{TooMany}
+use Rattle.tib_expand.specs.declared.error.HuntError.{HuntError}
 use Rattle.tib_canon.specs.Constructions.{Construction, edges_over, IsCanonicalOf}
 use Rattle.tib_operations.specs.Made.{Made, nothing, and_then, normal_form, reached_set, HasReachedFrom, IsMadeFault}
 use Rattle.tib_operations.specs.declared.status.Status.{Status}

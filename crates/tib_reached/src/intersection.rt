@@ -1,7 +1,8 @@
 //! The pairs that are reached, with their rules.
 
 ghost use Rattle.std.specs.Prelude.{◌≤◌, length, IfOk, IfErr};
-ghost use Rattle.tib_expand.specs.Reached.{most_parts, IfTooMany, IsBeyond};
+ghost use Rattle.tib_expand.specs.Reached.{most_parts, IsBeyond};
+ghost use Rattle.tib_expand.specs.Limits.{IfTooMany};
 ghost use Rattle.tib_intersect.specs.Answered.{IsIntersection, IsGrammar, HasParts, HaveRootsOf};
 ghost use Rattle.tib_intersect.specs.Intersection.{intersection};
 

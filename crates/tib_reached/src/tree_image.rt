@@ -1,7 +1,8 @@
 //! The keys that are reached, with their rules.
 
 ghost use Rattle.std.specs.Prelude.{◌≤◌, length, IfOk, IfErr};
-ghost use Rattle.tib_expand.specs.Reached.{most_parts, IfTooMany, IsBeyond};
+ghost use Rattle.tib_expand.specs.Reached.{most_parts, IsBeyond};
+ghost use Rattle.tib_expand.specs.Limits.{IfTooMany};
 ghost use Rattle.tib_image.specs.Answered.{IsImage, AreOverOrder, HasParts};
 ghost use Rattle.tib_image.specs.Image.{image_of};
 

@@ -1,7 +1,7 @@
 use Rattle.std.proofs.Common.{[], subst}
 use Rattle.std.proofs.lemmas.Result.{IfOk-weaker, IfErr-weaker}
 use Rattle.tib_lex.proofs.Results.{ok_both}
-use Rattle.tib_expand.proofs.Reaching.{IfTooMany-weaker}
+use Rattle.tib_expand.proofs.Limits.{IfTooMany-weaker}
 use Rattle.tib_determinize.specs.Answered.{HasParts}
 use Rattle.tib_grammar.specs.GrammarOf.{GrammarOf}
 use Rattle.tib_determinize.proofs.ReachedGrammar.{determinized, beyond_of, few_vectors, few_rules}

@@ -1,6 +1,6 @@
 use Rattle.std.proofs.lemmas.Result.{IfOk-weaker, IfErr-weaker}
 use Rattle.tib_lex.proofs.Results.{ok_both}
-use Rattle.tib_expand.proofs.Reaching.{IfTooMany-weaker}
+use Rattle.tib_expand.proofs.Limits.{IfTooMany-weaker}
 use Rattle.tib_intersect.proofs.ReachedGrammar.{pair_grammar, roots, few_pairs, few_rules, reached_of, beyond_of}
 use Rattle.tib_reached.proofs.intersection.intersect.Goals as goal
 

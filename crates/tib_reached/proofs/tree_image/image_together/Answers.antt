@@ -1,7 +1,7 @@
 use Rattle.std.proofs.lemmas.Result.{IfOk-weaker, IfErr-weaker}
 use Rattle.tib_lex.proofs.Results.{ok_both}
 use Rattle.tib_grammar.proofs.Positions.{rules_in_range}
-use Rattle.tib_expand.proofs.Reaching.{IfTooMany-weaker}
+use Rattle.tib_expand.proofs.Limits.{IfTooMany-weaker}
 use Rattle.tib_image.proofs.Answering.{few_keys, few_rules, reached_of, beyond_of}
 use Rattle.tib_reached.proofs.tree_image.image_together.Goals as goal
 

@@ -23,7 +23,7 @@ returns-in-Supports g c =
 pub returns-in-Ok : goal.returns-in-Ok
 returns-in-Ok g c =
     outcome_of (asked_for c.args.job.now.operation c.in-GrammarAndTransducer.is c.requires.held) c.in-GrammarAndTransducer.is
-    (printed_outcome operations.Forward refl (λ printed. printed.text) c.image_of_together.result _ c.grammar_text-in-Ok.ensures c.in-Ok.ensures.met c.image_of_together.ensures.within c.image_of_together.ensures.text c.image_of_together.ensures.err)
+    (printed_outcome operations.Forward refl (λ printed. printed.text) c.forward_image_of_together.result _ c.grammar_text-in-Ok.ensures c.in-Ok.ensures.met c.forward_image_of_together.ensures.within c.forward_image_of_together.ensures.text c.forward_image_of_together.ensures.err)
 
 pub returns-in-Err : goal.returns-in-Err
 returns-in-Err g c =
@@ -33,7 +33,7 @@ returns-in-Err g c =
 pub returns-in-Ok-demand : goal.returns-in-Ok-demand
 returns-in-Ok-demand g c =
     outcome_of (asked_for c.args.job.now.operation c.in-TransducerAndGrammar.is c.requires.held) c.in-TransducerAndGrammar.is
-    (printed_outcome operations.Backward refl (λ printed. printed.text) c.preimage_of_together.result _ c.grammar_text-in-Ok-demand.ensures c.in-Ok-demand.ensures.met c.preimage_of_together.ensures.within c.preimage_of_together.ensures.text c.preimage_of_together.ensures.err)
+    (printed_outcome operations.Backward refl (λ printed. printed.text) c.inverse_image_of_together.result _ c.grammar_text-in-Ok-demand.ensures c.in-Ok-demand.ensures.met c.inverse_image_of_together.ensures.within c.inverse_image_of_together.ensures.text c.inverse_image_of_together.ensures.err)
 
 pub returns-in-Err-demand : goal.returns-in-Err-demand
 returns-in-Err-demand g c =
