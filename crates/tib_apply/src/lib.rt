@@ -1,9 +1,8 @@
 //! Forward and backward application of a transducer to a grammar in normal form: the trees into
 //! which the transducer turns trees of the grammar, and the trees that it turns into trees of the
 //! grammar, each at the least cost. What is defined and proved of both is here, for every semiring.
-//! `apply_forward` and `apply_backward` find what is reached by one worker,
-//! `apply_forward_together` and `apply_backward_together` by several. It builds on
-//! `tib_transducer`, `tib_match`, `tib_inside`, `tib_hunt` and `tib_key_edges`.
+//! `Forward` and `Backward` are these as operations that a hunt explores. It builds on
+//! `tib_transducer`, `tib_match`, `tib_inside`, `tib_expand` and `tib_key_edges`.
 #![tactic(auto)]
 
 mod backward;

@@ -1,6 +1,6 @@
-//! The composition of two transducers: the pairs of their states that are reached, with the rules
-//! of the composite transducer; `compose` finds them by one worker, and `compose_together` by
-//! several. It builds on `tib_key_edges`, `tib_transducer` and `tib_hunt`.
+//! The composition of two transducers: the pairs of their states, with the rules of the composite
+//! transducer. `Composite` is this as an operation that a hunt explores. It builds on
+//! `tib_key_edges`, `tib_transducer` and `tib_expand`.
 #![tactic(auto)]
 
 mod bounding;

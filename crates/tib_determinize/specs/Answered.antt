@@ -1,4 +1,4 @@
--- What `determinize` returns.
+-- What a hunt of vectors returns.
 use Rattle.std.specs.Prelude.{◌≡◌, ℕ, List, map}
 use Rattle.tib_grammar.specs.GrammarOf.{named_rule}
 use Rattle.tib_grammar.specs.declared.Rule.{Rule}

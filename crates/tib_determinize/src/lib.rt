@@ -1,7 +1,7 @@
 //! Determinization of a weighted tree grammar by residuals. The vectors that are reached from the
 //! labels over no state, with their rules, are a grammar in deterministic form that has the series
-//! of the input; `determinize` finds them by one worker, and `determinize_together` by several. It
-//! builds on `tib_grammar` and `tib_hunt`.
+//! of the input. `Residuals` is this as an operation that a hunt explores. It builds on
+//! `tib_grammar` and `tib_expand`.
 #![tactic(auto)]
 
 mod alive;

@@ -112,9 +112,9 @@ pub fn inverse_image_of<S: Semiring + Drop, G: Gate>(
     canonical_of_inverse_image::<S>(alloc, transducer, &form, labels, limit, hunted)
 }
 
-/// What `inverse_image_of` returns, with the keys hunted by this number of workers, 1 to 16, whatever
-/// the order of their steps. It may wait forever, as the hunt by several workers. Errors are those
-/// of `inverse_image_of`.
+/// What `inverse_image_of` returns, with the keys hunted by this number of workers, 1 to 16,
+/// whatever the order of their steps. It may wait forever, as the hunt by several workers. Errors
+/// are those of `inverse_image_of`.
 pub fn inverse_image_of_together<
     S: Semiring + Sync + Drop,
     R: Threads + Wait + Sync,

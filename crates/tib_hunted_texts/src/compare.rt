@@ -153,7 +153,7 @@ fn text_of(
 /// and the least tree that has a cost in exactly one of them. `TooMany` only where a normal form or
 /// the reached set has more parts than the limit; `TreeTooLarge` only where that least tree has
 /// more than 10,000 nodes; otherwise `OutOfMemory`. The time is that of both normal forms and of
-/// the vectors of both side by side (`compare_alone` of tib_compare).
+/// the vectors of both side by side (`compare_alone` of tib_reached).
 pub fn comparison_of<G: Gate>(
     alloc: Global,
     left: &Grammar<Boolean>,

@@ -116,9 +116,9 @@ pub fn forward_image_of<S: Semiring + Drop, G: Gate>(
     canonical_of_forward_image::<S>(alloc, &form, transducer, labels, limit, hunted)
 }
 
-/// What `forward_image_of` returns, with the keys hunted by this number of workers, 1 to 16, whatever the
-/// order of their steps. It may wait forever, as the hunt by several workers. Errors are those of
-/// `forward_image_of`.
+/// What `forward_image_of` returns, with the keys hunted by this number of workers, 1 to 16,
+/// whatever the order of their steps. It may wait forever, as the hunt by several workers. Errors
+/// are those of `forward_image_of`.
 pub fn forward_image_of_together<
     S: Semiring + Sync + Drop,
     R: Threads + Wait + Sync,

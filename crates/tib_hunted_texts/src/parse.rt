@@ -73,7 +73,7 @@ fn canonical_of_parse<S: Semiring + Drop>(
 /// rule that is not linear or not nondeleting; `TooMany` comes where there is none and the reached
 /// keys have more parts than the limit; `OutOfMemory` where memory is refused or the string has
 /// 2^32 words or more. No normal form is made. The time is that of the edges of the keys that are
-/// reached (`parse` of tib_image).
+/// reached (`parse` of tib_reached).
 pub fn parse_of<S: Semiring + Drop, G: Gate>(
     alloc: Global,
     transducer: &StringTransducer<S>,

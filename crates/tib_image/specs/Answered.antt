@@ -1,4 +1,4 @@
--- What `image` returns.
+-- What a hunt of the image of a tree returns.
 use Rattle.std.specs.Prelude.{◌≡◌, ℕ, List, length, map}
 use Rattle.tib_tree.specs.Trees.{Tree}
 use Rattle.tib_grammar.specs.GrammarOf.{named_rule}

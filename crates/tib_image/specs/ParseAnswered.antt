@@ -1,4 +1,4 @@
--- What `parse` returns.
+-- What a hunt of parsing returns.
 use Rattle.std.specs.Prelude.{◌≡◌, ◌↔◌, ℕ, List, length, map, Option}
 use Rattle.tib_tree.specs.Trees.{Tree}
 use Rattle.tib_grammar.specs.Series.{IsSeries}

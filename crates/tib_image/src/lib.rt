@@ -1,10 +1,9 @@
 //! What a transducer makes of one tree, and which trees it turns into one string. The outputs on a
 //! tree: keys of a state of the transducer and a node of the tree, reached along the rules whose
 //! left-hand sides match at the node. The transducer may copy, delete, be extended and be labelled.
-//! `Image` is this as an operation for `tib_hunt`, and `image` returns the keys that are reached,
-//! with their rules, as does `image_together` by several workers. The trees of a string are in
-//! `parse`. It builds on `tib_transducer`, `tib_hunt` and `tib_key_edges`, which has the index of its
-//! rules and its edges over places, and for `parse` on `tib_strings`.
+//! `Image` is this as an operation that a hunt explores. The trees of a string are in `parse`. It
+//! builds on `tib_transducer`, `tib_expand` and `tib_key_edges`, which has the index of its rules
+//! and its edges over places, and for `parse` on `tib_strings`.
 #![tactic(auto)]
 
 pub mod examples;

@@ -1,4 +1,4 @@
--- What `intersect` returns.
+-- What a hunt of pairs returns.
 use Rattle.std.specs.Prelude.{◌≡◌, ℕ, ◌<◌, List, length, map}
 use Rattle.tib_grammar.specs.GrammarOf.{named_rule}
 use Rattle.tib_grammar.specs.Run.{rule_at}

@@ -1,7 +1,6 @@
 //! The intersection of two grammars in normal form: pairs of states, reached along pairs of rules
-//! that agree in label and rank. `Pairs` is this as an operation for `tib_hunt`, and `intersect`
-//! returns the pairs that are reached, with their rules, as does `intersect_together` by several
-//! workers. It builds on `tib_cost`, `tib_grammar`, `tib_normal` and `tib_hunt`.
+//! that agree in label and rank. `Pairs` is this as an operation that a hunt explores. It builds on
+//! `tib_cost`, `tib_grammar`, `tib_normal` and `tib_expand`.
 #![tactic(auto)]
 
 mod expand;

@@ -6,7 +6,7 @@
 //! side serve the operations whose keys lead to the sides of rules: forward application, the image
 //! of a tree, and parsing. An index gives the positions of the rules of a state, a label and a
 //! rank. The crate also has laws of the composition of two transducers: the composite transducer
-//! has the series of the composition. It uses `tib_grammar`, `tib_hunt` and `tib_transducer`.
+//! has the series of the composition. It uses `tib_grammar`, `tib_expand` and `tib_transducer`.
 #![tactic(auto)]
 
 mod buckets;

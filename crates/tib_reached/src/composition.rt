@@ -21,13 +21,13 @@ use tib_transducer::{Transducer, TransducerRule};
 /// The pairs of states that composition reaches from the pair of the starts, in the order by
 /// rounds, and the rules over their positions. As a transducer whose start is position 0 they turn
 /// each tree into each other one at the least cost over all trees between (`composes_series` of
-/// tib_key_edges). `Class` exactly where the second transducer is not linear, nondeleting, not extended
-/// and not labelled; `TooMany` exactly where it is and they have more parts than the limit, 1 to
-/// `MOST_PARTS` of tib_expand; `OutOfMemory` if memory is refused. Calls `gate` once for each pair.
-/// Cost: that of `Composite::new`, and for each pair and each rule of its state of the first
-/// transducer a search of the translations of the rule's right-hand side, in addition to the hunt's
-/// own (`hunt_alone`). The construction is from Engelfriet, 1975, and with weights from Maletti,
-/// 2006.
+/// tib_key_edges). `Class` exactly where the second transducer is not linear, nondeleting, not
+/// extended and not labelled; `TooMany` exactly where it is and they have more parts than the
+/// limit, 1 to `MOST_PARTS` of tib_expand; `OutOfMemory` if memory is refused. Calls `gate` once
+/// for each pair. Cost: that of `Composite::new`, and for each pair and each rule of its state of
+/// the first transducer a search of the translations of the rule's right-hand side, in addition to
+/// the hunt's own (`hunt_alone`). The construction is from Engelfriet, 1975, and with weights from
+/// Maletti, 2006.
 pub fn compose<S: Semiring, G: Gate>(
     alloc: Global,
     first: &Transducer<S>,

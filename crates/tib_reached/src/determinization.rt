@@ -20,10 +20,10 @@ use tib_normal::Normal;
 /// The vectors that are reached from the labels over no state, in the order by rounds, and the
 /// rules over their positions. A tree has at most one run to a vector, and its cost times the
 /// residual of a state is the series at that state. `TooMany` exactly where they have more parts
-/// than the limit, 1 to `MOST_PARTS` of tib_expand; `OutOfMemory` if memory is refused. Calls `gate`
-/// once for each vector. Cost: for each vector one look for each place of each rule, the entries of
-/// all vectors up to it if one of its states is beside another in a rule, and the edges that are
-/// made. Residuals are from Mohri, 1997, and May and Knight, 2006.
+/// than the limit, 1 to `MOST_PARTS` of tib_expand; `OutOfMemory` if memory is refused. Calls
+/// `gate` once for each vector. Cost: for each vector one look for each place of each rule, the
+/// entries of all vectors up to it if one of its states is beside another in a rule, and the edges
+/// that are made. Residuals are from Mohri, 1997, and May and Knight, 2006.
 pub fn determinize<S: Semiring, G: Gate>(
     alloc: Global,
     normal: &Normal<S>,

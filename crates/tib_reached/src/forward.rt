@@ -19,11 +19,11 @@ use tib_transducer::Transducer;
 
 /// The keys that forward application reaches from the key of the starts, in the order by rounds,
 /// and the rules over their positions. As a grammar whose start is position 0 they give each tree
-/// the least cost of putting it out from a tree of the grammar (`laws::forward_means`). `Class`
-/// exactly where the transducer is not linear; `TooMany` exactly where it is and they have more
-/// parts than the limit, 1 to `MOST_PARTS` of tib_expand; `OutOfMemory` if memory is refused. Calls
-/// `gate` once for each key. Cost: that of `Forward::new`, and for each key the matches of the
-/// left-hand sides of the rules of its state and the edges that they make, in addition to the
+/// the least cost of putting it out from a tree of the grammar (`forward_means` of tib_apply).
+/// `Class` exactly where the transducer is not linear; `TooMany` exactly where it is and they have
+/// more parts than the limit, 1 to `MOST_PARTS` of tib_expand; `OutOfMemory` if memory is refused.
+/// Calls `gate` once for each key. Cost: that of `Forward::new`, and for each key the matches of
+/// the left-hand sides of the rules of its state and the edges that they make, in addition to the
 /// hunt's own (`hunt_alone`). The image of a grammar under a linear transducer is from Comon and
 /// others, 2007.
 pub fn apply_forward<S: Semiring, G: Gate>(

@@ -21,7 +21,7 @@ use tib_normal::Normal;
 /// The pairs that are reached from the pair of the starts, in the order by rounds, and the rules
 /// over their positions. As a grammar whose start is position 0 they give each tree the product of
 /// its two costs. `TooMany` exactly where they have more parts than the limit, 1 to `MOST_PARTS` of
-/// tib_hunt; `OutOfMemory` if memory is refused. Calls `gate` once for each pair. Cost: for each
+/// tib_expand; `OutOfMemory` if memory is refused. Calls `gate` once for each pair. Cost: for each
 /// pair the rules of its first state, each with one look-up by hash, and the edges that it makes,
 /// in addition to the hunt's own (`hunt_alone`). The product of tree automata is from Comon and
 /// others, 2007.

@@ -1,5 +1,5 @@
-//! The reached set of each construction, hunted by one worker or by several: what `tib_hunt` finds for
-//! the operations of the crates below, as their definitions state it.
+//! The reached set of each construction, hunted by one worker or by several: what `tib_hunt` finds
+//! for the operations of the crates below, as their definitions state it.
 #![tactic(auto)]
 
 mod backward;

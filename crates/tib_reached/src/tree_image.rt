@@ -20,13 +20,13 @@ use tib_tree::Tree;
 
 /// The keys that are reached from the key of the start and the root of a tree, in the order by
 /// rounds, and the rules over their positions. As a grammar whose start is position 0 they give
-/// each tree the cost of the transducer at the tree that is given and it (`laws::image_means`). The
-/// transducer may copy, delete, be extended and be labelled. `TooMany` exactly where they have more
-/// parts than the limit, 1 to `MOST_PARTS` of tib_expand; `OutOfMemory` if memory is refused. Calls
-/// `gate` once for each key. Cost: for each key one look-up by hash, one step for each item of the
-/// left-hand sides that begin with the label and the rank of its node, and the edges that are made,
-/// in addition to the hunt's own (`hunt_alone`). The image of a tree under a transducer is from
-/// Comon and others, 2007.
+/// each tree the cost of the transducer at the tree that is given and it (`image_means` of
+/// tib_image). The transducer may copy, delete, be extended and be labelled. `TooMany` exactly
+/// where they have more parts than the limit, 1 to `MOST_PARTS` of tib_expand; `OutOfMemory` if
+/// memory is refused. Calls `gate` once for each key. Cost: for each key one look-up by hash, one
+/// step for each item of the left-hand sides that begin with the label and the rank of its node,
+/// and the edges that are made, in addition to the hunt's own (`hunt_alone`). The image of a tree
+/// under a transducer is from Comon and others, 2007.
 pub fn image<S: Semiring, G: Gate>(
     alloc: Global,
     transducer: &Transducer<S>,
