@@ -1,5 +1,5 @@
-//! Tests of hunts and of what their workers share: the lock by turns, the table of keys, the crew
-//! over items, small hunts, many keys, several workers.
+//! Tests of hunts and of what their workers share: the lock by turns, the table of keys, the
+//! items of a task; and of small hunts, many keys and several workers.
 #![tactic(auto)]
 
 #[cfg(test)]
