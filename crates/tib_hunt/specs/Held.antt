@@ -2,7 +2,7 @@
 use Rattle.std.specs.Prelude.{◌≡◌, ℕ, ◌+◌, ◌<◌, ◌≤◌, List, [], ◌++◌, length, map, slice_index_or}
 use Rattle.tib_lex.specs.Lists.{Has, Each, Distinct, total}
 use Rattle.tib_expand.specs.EdgeLists.{IsEnd}
-use Rattle.tib_expand.specs.Reached.{Exploration, IsNew, AfterRounds, IsReached, AreEdges}
+use Rattle.tib_expand.specs.Reached.{Exploration, IsNew, AfterRounds, AreEdges, Leads}
 use Rattle.tib_expand.specs.Reading.{Reading, AreBelow}
 use Rattle.tib_hunt.specs.Rows.{NumberedRow, read_rows, IsRowBelow}
 

@@ -3,7 +3,7 @@ use Rattle.std.specs.Prelude.{◌≡◌, ℕ, ◌<◌, ◌≤◌, List, [], ◌�
 use Rattle.tib_lex.specs.Lists.{Each}
 use Rattle.tib_expand.specs.EdgeLists.{position_of, IsWithin}
 use Rattle.tib_hunt.specs.Numbered.{moved_to}
-use Rattle.tib_expand.specs.Reading.{Reading}
+use Rattle.tib_expand.specs.Reading.{Reading, AreBelow}
 use Rattle.tib_expand.specs.declared.place.Place.{Place}
 use Rattle.tib_hunt.specs.declared.row.Row.{Row}
 
