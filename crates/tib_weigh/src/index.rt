@@ -196,10 +196,7 @@ impl Index {
 
     /// The index of all rules of a grammar. It takes time and memory in proportion to the items of
     /// the rules.
-    pub(crate) fn new<S: Semiring>(
-        alloc: Global,
-        normal: &Normal<S>,
-    ) -> Result<Index, AllocError>
+    pub(crate) fn new<S: Semiring>(alloc: Global, normal: &Normal<S>) -> Result<Index, AllocError>
         ensures { IfOk result (IsIndex S.product normal.now.rules) }
     {
         let mut index = Index::empty(alloc);

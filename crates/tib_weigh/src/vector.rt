@@ -60,11 +60,7 @@ pub(crate) fn lesser(a: Cost, b: Cost) -> Cost
 }
 
 /// Lowers the cost at the last state to this one, or puts a further state last.
-pub(crate) fn add_cost(
-    vector: &mut Vec<Entry>,
-    state: u32,
-    cost: Cost,
-) -> Result<(), AllocError>
+pub(crate) fn add_cost(vector: &mut Vec<Entry>, state: u32, cost: Cost) -> Result<(), AllocError>
     requires ascends { IsAscending vector.old.items }
     requires last { EndsBy state vector.old.items }
     ensures ascends { IfOk result (λ _. IsAscending vector.new.items) }
