@@ -6,7 +6,7 @@ use Rattle.std.proofs.Common.{ap, ◌∙◌, subst, arith}
 use Rattle.tib_command.specs.Words.{Text, reads, values_of, mode, depth, workers, limit, beam, place}
 use Rattle.tib_lex.proofs.Spelled.{and_true}
 use Rattle.std.proofs.lemmas.Bool.Decides.{nat_tests}
-use Rattle.tib_command.specs.Jobs.{numeral_in, within, Asked, Task, job_of, asked_by, once, mode_in, count_in, beam_in, task_in, words_in, demo_in, demo_of, takes_number, most_demo, files_in, are_files, operation_in, word_count, most_parts, most_trees, most_workers}
+use Rattle.tib_command.specs.Jobs.{numeral_in, within, Asked, AskedFor, job_of, asked_by, once, mode_in, count_in, beam_in, task_in, words_in, demo_in, demo_of, takes_number, most_demo, files_in, are_files, operation_in, word_count, most_parts, most_trees, most_workers}
 use Rattle.tib_command.specs.declared.job.Mode.TheVariants.{MinPlus}
 use Rattle.tib_command.specs.declared.job.Operation.{Operation}
 use Rattle.tib_command.specs.declared.job.Operation.TheVariants as operations
@@ -20,11 +20,11 @@ map_some : {A B : Type 0} (f : A → B) (o : Option A) (y : B) → option_map f 
 map_some f None y e = absurd (cc e)
 map_some f (Some x) y e = (x, refl, cc e)
 
-some_task : (a b : Task) → (let o : Option Task = Some a in o ≡ Some b) → a ≡ b
+some_task : (a b : AskedFor) → (let o : Option AskedFor = Some a in o ≡ Some b) → a ≡ b
 some_task a b e = cc e
 
 -- as many files as the words
-abbrev HasItsFiles : Task → Type 0
+abbrev HasItsFiles : AskedFor → Type 0
 HasItsFiles task = length task.files ≡ length (kinds_of task.operation)
 
 as_many_kinds : (o : Operation) → word_count o ≡ length (kinds_of o)
@@ -47,7 +47,7 @@ as_many_kinds operations.Demo = refl
 first_test : (m n : ℕ) (b : Bool) → (m == n) && b ≡ true → m ≡ n
 first_test m n b e = grind arith
 
-files_many : (o : Operation) (files : List Text) (task : Task) → files_in o files ≡ Some task → HasItsFiles task
+files_many : (o : Operation) (files : List Text) (task : AskedFor) → files_in o files ≡ Some task → HasItsFiles task
 files_many o files task e = by (are_files o files) refl e
   where
     by : (b : Bool) → are_files o files ≡ b → (if b then Some (record { operation = o; files = files; demo = 0 }) else None) ≡ Some task → HasItsFiles task
@@ -57,19 +57,19 @@ files_many o files task e = by (are_files o files) refl e
         (first_test (length files) (word_count o) (not (list_any (λ f. length f == 0) files)) t ∙ as_many_kinds o)
 
 -- `demo` has no file
-demo_many : (words : List Text) (task : Task) → demo_in words ≡ Some task → HasItsFiles task
+demo_many : (words : List Text) (task : AskedFor) → demo_in words ≡ Some task → HasItsFiles task
 demo_many [] task e = absurd (cc e)
 demo_many (word ∷ []) task e = subst HasItsFiles (map_some demo_of (count_in most_demo word) task e).2 refl
 demo_many (word ∷ (other ∷ rest)) task e = absurd (cc e)
 
-words_many : (o : Operation) (words : List Text) (task : Task) → words_in o words ≡ Some task → HasItsFiles task
+words_many : (o : Operation) (words : List Text) (task : AskedFor) → words_in o words ≡ Some task → HasItsFiles task
 words_many o words task e = by (takes_number o) e
   where
     by : (b : Bool) → (if b then demo_in words else files_in o words) ≡ Some task → HasItsFiles task
     by true f = demo_many words task f
     by false f = files_many o words task f
 
-task_many : (texts : List Text) (task : Task) → task_in texts ≡ Some task → HasItsFiles task
+task_many : (texts : List Text) (task : AskedFor) → task_in texts ≡ Some task → HasItsFiles task
 task_many [] task e = absurd (cc e)
 task_many (name ∷ rest) task e = let o = then_some (λ op. words_in op rest) (operation_in name) task e in words_many o.0 rest task o.1
 
@@ -121,17 +121,17 @@ limit_asked words asked e =
 
 -- and a number of `demo` of at most 16, which is 0 for other operations
 
-abbrev IsDemoLow : Task → Type 0
+abbrev IsDemoLow : AskedFor → Type 0
 IsDemoLow task = task.demo ≤ most_demo
 
-files_low : (o : Operation) (files : List Text) (task : Task) → files_in o files ≡ Some task → IsDemoLow task
+files_low : (o : Operation) (files : List Text) (task : AskedFor) → files_in o files ≡ Some task → IsDemoLow task
 files_low o files task e = by (are_files o files) e
   where
     by : (b : Bool) → (if b then Some (record { operation = o; files = files; demo = 0 }) else None) ≡ Some task → IsDemoLow task
     by false e = absurd (cc e)
     by true e = subst IsDemoLow (some_task (record { operation = o; files = files; demo = 0 }) task e) (omega arith)
 
-number_low : (words : List Text) (task : Task) → demo_in words ≡ Some task → IsDemoLow task
+number_low : (words : List Text) (task : AskedFor) → demo_in words ≡ Some task → IsDemoLow task
 number_low [] task e = absurd (cc e)
 number_low (word ∷ []) task e =
     let n = map_some demo_of (count_in most_demo word) task e in
@@ -139,14 +139,14 @@ number_low (word ∷ []) task e =
     subst IsDemoLow n.2 (within_low most_demo numeral.0 n.0 numeral.2)
 number_low (word ∷ (other ∷ rest)) task e = absurd (cc e)
 
-words_low : (o : Operation) (words : List Text) (task : Task) → words_in o words ≡ Some task → IsDemoLow task
+words_low : (o : Operation) (words : List Text) (task : AskedFor) → words_in o words ≡ Some task → IsDemoLow task
 words_low o words task e = by (takes_number o) e
   where
     by : (b : Bool) → (if b then demo_in words else files_in o words) ≡ Some task → IsDemoLow task
     by true f = number_low words task f
     by false f = files_low o words task f
 
-task_low : (texts : List Text) (task : Task) → task_in texts ≡ Some task → IsDemoLow task
+task_low : (texts : List Text) (task : AskedFor) → task_in texts ≡ Some task → IsDemoLow task
 task_low [] task e = absurd (cc e)
 task_low (name ∷ rest) task e = let o = then_some (λ op. words_in op rest) (operation_in name) task e in words_low o.0 rest task o.1
 
