@@ -10,6 +10,7 @@ use Rattle.tib_cost.specs.Semiring.{most}
 use Rattle.tib_cost.specs.Least.{IsLeast, AtMost}
 use Rattle.tib_inside.specs.Inside.{IsInside}
 use Rattle.tib_prune.specs.Contexts.{Context, plug, AreRunsAround, cost_around, Stands, IsCut}
+use Rattle.tib_prune.specs.Counted.{StandsInRun}
 use Rattle.tib_prune.specs.Outside.{IsContextCost, IsOutside, IsThrough, through}
 use Rattle.tib_prune.specs.Pruned.{IsKept, ArePruned, AreCosts, KeepsCheapTrees, MakesNoneCheaper, HadNoGreaterCosts, StandInCheapRuns}
 use Rattle.tib_prune.specs.Settling.{told, IsOffered}
@@ -82,3 +83,9 @@ abbrev pub NothingIsKeptWithoutRuns : (ℕ → ℕ → ℕ) → Type 0
 NothingIsKeptWithoutRuns product =
     (rules : List (Rule ℕ)) (insides outsides : ℕ → Option ℕ) (beam n : ℕ) → AreCosts product rules insides outsides → insides 0 ≡ None →
     IsKept product rules beam n → ⊥
+
+-- the rules that some beam keeps are those that occur in some run within the greatest cost
+abbrev pub BeamsKeepRulesInRuns : (ℕ → ℕ → ℕ) → Type 0
+BeamsKeepRulesInRuns product =
+    (rules : List (Rule ℕ)) (insides outsides : ℕ → Option ℕ) → AreCosts product rules insides outsides → (n : ℕ) →
+    StandsInRun product rules n ↔ ((beam : ℕ) × (beam ≤ most) × IsKept product rules beam n)

@@ -2,6 +2,7 @@
 pub mod Contexts
 pub mod Outside
 pub mod Pruned
+pub mod Counted
 pub mod Settling
 pub mod Examples
 pub mod Laws

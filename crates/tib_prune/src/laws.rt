@@ -6,7 +6,7 @@ ghost use Rattle.tib_prune.specs.Outside.{through};
 ghost use Rattle.tib_prune.specs.Pruned.{ArePruned, AreCosts};
 ghost use Rattle.tib_prune.specs.Settling.{told};
 ghost use Rattle.tib_prune.specs.Examples.{branching, insides as worked_insides, outsides as worked_outsides, leaf, fork, without_first, without_second};
-ghost use Rattle.tib_prune.specs.Laws.{PluggingMakesRuns, CuttingMakesContexts, CheapTreesKeepTheirCosts, NoTreeGetsCheaper, PrunedTreesHadNoGreaterCosts, KeptRulesStandInCheapRuns, ToldCostsAreContextCosts, OutsidesMeetTheirEquation, ThroughCostsAreComputed, KeepingIsDecided, NothingIsKeptWithoutRuns};
+ghost use Rattle.tib_prune.specs.Laws.{PluggingMakesRuns, CuttingMakesContexts, CheapTreesKeepTheirCosts, NoTreeGetsCheaper, PrunedTreesHadNoGreaterCosts, KeptRulesStandInCheapRuns, ToldCostsAreContextCosts, OutsidesMeetTheirEquation, ThroughCostsAreComputed, KeepingIsDecided, NothingIsKeptWithoutRuns, BeamsKeepRulesInRuns};
 
 use tib_cost::Semiring;
 
@@ -66,6 +66,11 @@ pub fn keeping_is_decided<S: Semiring>()
 /// No rule is kept where the start has no inside cost.
 pub fn nothing_is_kept_without_runs<S: Semiring>()
     ensures { NothingIsKeptWithoutRuns S.product }
+{}
+
+/// The rules that some beam keeps are those that occur in some run within the greatest cost.
+pub fn beams_keep_rules_in_runs<S: Semiring>()
+    ensures { BeamsKeepRulesInRuns S.product }
 {}
 
 /// By `0 -> S(0 0) # 1` and `0 -> a # 2`, the run 0(1 1) without one of its sub-runs is a context

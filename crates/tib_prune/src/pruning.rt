@@ -4,6 +4,7 @@ ghost use Rattle.tib_grammar.specs.Forms.{AreNormal, IsNormalSide};
 ghost use Rattle.tib_grammar.specs.Range.{AllBelow, AreInRange};
 ghost use Rattle.tib_grammar.specs.Sides.{holes_of};
 ghost use Rattle.tib_inside.specs.Settling.{costs_in};
+ghost use Rattle.tib_prune.specs.Counted.{KeepsCount, IsLeastBeam, AreThroughCosts, IsBeamFor};
 ghost use Rattle.tib_prune.specs.Loop.{AreInsidesOfAll, AreOutsides};
 ghost use Rattle.tib_prune.specs.Outside.{through};
 ghost use Rattle.tib_prune.specs.Pruned.{is_at_most, ArePruned, IsPruned, KeepsCheapTrees, HadNoGreaterCosts, StandInCheapRuns};
@@ -156,6 +157,8 @@ fn through_costs<S: Semiring>(
     requires normal { AreNormal rules.now }
     requires insides { AreInRange (length insides.now) rules.now }
     requires outsides { AreInRange (length outsides.now) rules.now }
+    ensures { IfOk result (λ costs. AreThroughCosts (through S.product (costs_in insides.now)
+        (costs_in outsides.now)) rules.now costs.items) }
 {
     let mut costs = Vec::new(alloc);
     for rule in rules {
@@ -179,6 +182,8 @@ fn beam_for<S: Semiring>(
     requires normal { AreNormal rules.now }
     requires insides { AreInRange (length insides.now) rules.now }
     requires outsides { AreInRange (length outsides.now) rules.now }
+    ensures { IfOk result (λ beam. IsBeamFor (through S.product (costs_in insides.now)
+        (costs_in outsides.now)) rules.now count (costs_in insides.now 0) beam) }
 {
     let Some(best) = insides[0] else {
         return Ok(S::one());
@@ -194,10 +199,11 @@ fn beam_for<S: Semiring>(
     }
 }
 
-/// The same with the least beam within which at least this many rules stay, or all that occur in
-/// runs; it returns this beam too. No clause says how many stay. Err only if memory is refused, and
-/// then the grammar is gone. Worst case: that of `prune_by_insides`, and O(r log r) steps for r
-/// rules.
+/// The same as `prune_by_insides` with the least beam that keeps at least `count` rules, or, where
+/// none keeps so many, that keeps all rules that any beam keeps: those that occur in some run whose
+/// cost is at most the greatest cost. It returns this beam too. More rules than `count` may stay,
+/// where several have one through cost. Err only if memory is refused, and then the grammar is
+/// gone. Worst case: that of `prune_by_insides`, and O(r log r) steps for r rules.
 pub fn prune_to_count<S: Semiring>(
     alloc: Global,
     normal: Normal<S>,
@@ -210,6 +216,8 @@ pub fn prune_to_count<S: Semiring>(
     ensures cheap { IfOk result (λ p. KeepsCheapTrees S.product normal.rules p.1 p.0.rules) }
     ensures costs { IfOk result (λ p. HadNoGreaterCosts S.product normal.rules p.0.rules) }
     ensures runs { IfOk result (λ p. StandInCheapRuns S.product normal.rules p.1 p.0.rules) }
+    ensures many { IfOk result (λ p. KeepsCount S.product normal.rules count p.0.rules) }
+    ensures least { IfOk result (λ p. IsLeastBeam S.product normal.rules count p.1 p.0.rules) }
 {
     normal.grammar().is_sound();
     let outsides = outside_costs::<S>(alloc, &normal, insides)?;
