@@ -1,7 +1,8 @@
 // The class that an operation demands of a transducer of a file.
 ghost use Rattle.std.specs.Prelude.{IfErr, IfOk, false};
 ghost use Rattle.tib_transducer.specs.Outside.{demands, AllMeet};
-ghost use Rattle.tib_operations.specs.Classes.{demanded_of, IsClassFault, plain};
+ghost use Rattle.tib_operations.specs.Classes.{demanded_of, IsClassFault};
+ghost use Rattle.tib_operations.specs.Compose.{plain};
 
 use tib_operations::Status;
 use tib_transducer::{Transducer, first_outside};
