@@ -55,12 +55,12 @@ impl<'a, S: Semiring> Backward<'a, S> {
     ) -> Result<Backward<'a, S>, ClassError>
         ensures transducer { IfOk result (λ b. b.transducer.now ≡ transducer.now) }
         ensures grammar { IfOk result (λ b. b.grammar.now ≡ grammar.now) }
-        ensures class { IfOk result (λ _. AllMeet (demands true true false false)
+        ensures class { IfOk result (λ _. AllMeet (demands true true false false false)
             transducer.now.rules) }
-        ensures fault { IfErr result (IsClassFault (demands true true false false)
+        ensures fault { IfErr result (IsClassFault (demands true true false false false)
             transducer.now.rules) }
     {
-        if let Some((rule, fault)) = first_outside(transducer, true, true, false, false) {
+        if let Some((rule, fault)) = first_outside(transducer, true, true, false, false, false) {
             return Err(ClassError::Class { rule, fault });
         }
         grammar.grammar().is_sound();

@@ -61,12 +61,12 @@ impl<'a, S: Semiring> Forward<'a, S> {
         ensures grammar { IfOk result (λ f. f.grammar.now ≡ grammar.now) }
         ensures transducer { IfOk result (λ f. f.transducer.now ≡ transducer.now) }
         ensures least { IfOk result (λ f. AreLeastRuns S.product grammar.now.rules f.runs) }
-        ensures class { IfOk result (λ _. AllMeet (demands true false false false)
+        ensures class { IfOk result (λ _. AllMeet (demands true false false false false)
             transducer.now.rules) }
-        ensures fault { IfErr result (IsClassFault (demands true false false false)
+        ensures fault { IfErr result (IsClassFault (demands true false false false false)
             transducer.now.rules) }
     {
-        if let Some((rule, fault)) = first_outside(transducer, true, false, false, false) {
+        if let Some((rule, fault)) = first_outside(transducer, true, false, false, false, false) {
             return Err(ClassError::Class { rule, fault });
         }
         match Forward::indexed(alloc, grammar, transducer) {

@@ -1,5 +1,5 @@
 -- Why a composition returns nothing, by the error of the test of classes or of the hunt.
-use Rattle.std.specs.Prelude.{ℕ, List, true}
+use Rattle.std.specs.Prelude.{ℕ, List, true, false}
 use Rattle.tib_expand.specs.Limits.{IfTooMany}
 use Rattle.tib_expand.specs.declared.error.HuntError.TheVariants.{TooMany as OfParts, OutOfMemory as OfHuntMemory}
 use Rattle.tib_expand.specs.declared.error.HuntError.{HuntError}
@@ -12,7 +12,7 @@ use Rattle.tib_compose.specs.Composed.{IsComposeFault}
 use Rattle.tib_compose.specs.Faults.{class_error, hunt_error}
 
 -- the first rule outside the classes is named
-pub class_fault : (two : List (TransducerRule ℕ)) (limit : ℕ) (Beyond : Type 0) (e : ClassError) → IsClassFault (demands true true true true) two e → IsComposeFault two limit Beyond (class_error e)
+pub class_fault : (two : List (TransducerRule ℕ)) (limit : ℕ) (Beyond : Type 0) (e : ClassError) → IsClassFault (demands true true true true false) two e → IsComposeFault two limit Beyond (class_error e)
 class_fault two limit Beyond (OfRule rule fault) h = h
 class_fault two limit Beyond OfMemory h = h
 
@@ -20,7 +20,7 @@ class_fault two limit Beyond OfMemory h = h
 -- follows from what a hunt promises of it
 pub hunt_fault :
     (two : List (TransducerRule ℕ)) (limit : ℕ) (Found Beyond : Type 0) →
-    AllMeet (demands true true true true) two → (Found → Beyond) → (e : HuntError) →
+    AllMeet (demands true true true true false) two → (Found → Beyond) → (e : HuntError) →
     IfTooMany limit Found e → IsComposeFault two limit Beyond (hunt_error e)
 hunt_fault two limit Found Beyond met so (OfParts n) h = (h.0, met, so h.1)
 hunt_fault two limit Found Beyond met so OfHuntMemory h = h

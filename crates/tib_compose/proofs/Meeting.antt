@@ -1,5 +1,5 @@
 -- What the demanded classes of the second transducer give.
-use Rattle.std.specs.Prelude.{ℕ, List, true, refl}
+use Rattle.std.specs.Prelude.{ℕ, List, true, refl, false}
 use Rattle.tib_grammar.proofs.Below.{below_has}
 use Rattle.tib_transducer.specs.Rules.{transducer_rule, states_in}
 use Rattle.tib_transducer.specs.Range.{AreShaped, AreWithin}
@@ -11,7 +11,7 @@ use Rattle.tib_compose.specs.Readers.{AreFlat}
 use Rattle.tib_compose.specs.EdgeLaws.{StatesBelow}
 
 -- rules of all four classes are plain
-pub plain_from : (rules : List (TransducerRule ℕ)) → AllMeet (demands true true true true) rules → ArePlain rules
+pub plain_from : (rules : List (TransducerRule ℕ)) → AllMeet (demands true true true true false) rules → ArePlain rules
 plain_from rules all n h = record {
   linear = (all n h).linear refl;
   nondeleting = (all n h).nondeleting refl;
@@ -20,7 +20,7 @@ plain_from rules all n h = record {
 }
 
 -- plain rules have one label over variables
-pub flat_from : (rules : List (TransducerRule ℕ)) → AreShaped rules → AllMeet (demands true true true true) rules → AreFlat rules
+pub flat_from : (rules : List (TransducerRule ℕ)) → AreShaped rules → AllMeet (demands true true true true false) rules → AreFlat rules
 flat_from rules shaped all n h =
     let over = is_over rules shaped (plain_from rules all) n h in
     record { root = over.0; is_root = over.1.root; variables = over.1.variables }

@@ -1,5 +1,5 @@
 -- What the composition of two transducers returns.
-use Rattle.std.specs.Prelude.{◌≡◌, ℕ, ◌≤◌, List, length, map, true}
+use Rattle.std.specs.Prelude.{◌≡◌, ℕ, ◌≤◌, List, length, map, true, false}
 use Rattle.tib_lex.specs.Lists.{Each}
 use Rattle.tib_cost.specs.Semiring.{most}
 use Rattle.tib_expand.specs.Reached.{IsReachedSet, parts_of}
@@ -33,6 +33,6 @@ AreOverOrder found = AreWithin (length found.order.items) found.rules.items
 -- Why nothing is returned: the first rule of the second transducer outside the classes that are
 -- demanded; where each rule is of them, a limit that each reached set exceeds; or out of memory.
 abbrev pub IsComposeFault : List (TransducerRule ℕ) → ℕ → Type 0 → ComposeError → Type 0
-IsComposeFault two limit Beyond (Class rule fault) = IsFirstOutside (demands true true true true) two (rule, fault)
-IsComposeFault two limit Beyond (TooMany n) = (n ≡ limit) × AllMeet (demands true true true true) two × Beyond
+IsComposeFault two limit Beyond (Class rule fault) = IsFirstOutside (demands true true true true false) two (rule, fault)
+IsComposeFault two limit Beyond (TooMany n) = (n ≡ limit) × AllMeet (demands true true true true false) two × Beyond
 IsComposeFault two limit Beyond OutOfMemory = Unit {0}

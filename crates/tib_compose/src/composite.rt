@@ -1,6 +1,6 @@
 //! The pairs of the states of two transducers, as what is hunted.
 
-ghost use Rattle.std.specs.Prelude.{◌≡◌, ℕ, ◌<◌, length, IfOk, IfErr, true};
+ghost use Rattle.std.specs.Prelude.{◌≡◌, ℕ, ◌<◌, length, IfOk, IfErr, true, false};
 ghost use Rattle.tib_transducer.specs.Outside.{demands, AllMeet};
 ghost use Rattle.tib_transducer.specs.Faults.{IsClassFault};
 ghost use Rattle.tib_compose.specs.EdgeLaws.{StatesBelow};
@@ -43,10 +43,12 @@ impl<'a, S> Composite<'a, S> {
     ) -> Result<Composite<'a, S>, ClassError>
         ensures first { IfOk result (λ c. c.first.now ≡ first.now) }
         ensures second { IfOk result (λ c. c.second.now ≡ second.now) }
-        ensures class { IfOk result (λ _. AllMeet (demands true true true true) second.now.rules) }
-        ensures fault { IfErr result (IsClassFault (demands true true true true) second.now.rules) }
+        ensures class { IfOk result (λ _. AllMeet (demands true true true true false)
+            second.now.rules) }
+        ensures fault { IfErr result (IsClassFault (demands true true true true false)
+            second.now.rules) }
     {
-        if let Some((rule, fault)) = first_outside(second, true, true, true, true) {
+        if let Some((rule, fault)) = first_outside(second, true, true, true, true, false) {
             return Err(ClassError::Class { rule, fault });
         }
         first.is_sound();

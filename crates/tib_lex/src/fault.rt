@@ -26,9 +26,6 @@ pub enum FaultKind {
     /// A variable occurs twice on a left-hand side.
     #[error("variable twice on the left")]
     VariableTwice,
-    /// A variable has children.
-    #[error("labelled variable")]
-    LabelledVariable,
     /// A right-hand side has a variable that its left-hand side lacks.
     #[error("unknown variable")]
     UnknownVariable,

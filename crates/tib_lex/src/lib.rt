@@ -1,7 +1,7 @@
 //! Lines and tokens of the text formats, over the bytes of a file, and the faults that a file may
 //! have. What is read from a line is exactly what the format says that it has: its tokens, by their
-//! spelling, or none where one is bad. It depends on `tib_io`, whose limit on the bytes of a file
-//! bounds its texts.
+//! spelling, or none where one is bad. The crate also has the limits that other crates share, and
+//! depends on no other crate.
 #![tactic(auto)]
 
 mod bytes;

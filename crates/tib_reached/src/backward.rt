@@ -32,7 +32,7 @@ pub fn apply_backward<S: Semiring, G: Gate>(
 ) -> Result<Found<Key, Rule<u32>>, ApplyError>
     requires some { 1 ≤ limit }
     requires limit { limit ≤ most_parts }
-    ensures class { IfOk result (λ _. AllMeet (demands true true false false)
+    ensures class { IfOk result (λ _. AllMeet (demands true true false false false)
         transducer.now.rules) }
     ensures reached { IfOk result (IsReachedBy (inverse_image S.product transducer.now.rules
         grammar.now.rules)) }
@@ -43,7 +43,7 @@ pub fn apply_backward<S: Semiring, G: Gate>(
     ensures few { IfOk result (λ f. length f.order.items ≤ limit) }
     ensures few_rules { IfOk result (λ f. length f.rules.items ≤ limit) }
     ensures fault { let hunted = inverse_image S.product transducer.now.rules grammar.now.rules in
-        IfErr result (IsApplyFault (demands true true false false) transducer.now.rules limit
+        IfErr result (IsApplyFault (demands true true false false false) transducer.now.rules limit
         (IsBeyond hunted limit)) }
 {
     let backward = Backward::new(alloc, transducer, grammar)?;
@@ -64,7 +64,7 @@ pub fn apply_backward_together<S: Semiring + Sync, R: Threads + Wait + Sync, G: 
     requires workers { (1 ≤ hunters.now.workers) × (hunters.now.workers ≤ 16) }
     requires some { 1 ≤ limit }
     requires limit { limit ≤ most_parts }
-    ensures class { IfOk result (λ _. AllMeet (demands true true false false)
+    ensures class { IfOk result (λ _. AllMeet (demands true true false false false)
         transducer.now.rules) }
     ensures reached { IfOk result (IsReachedBy (inverse_image S.product transducer.now.rules
         grammar.now.rules)) }
@@ -75,7 +75,7 @@ pub fn apply_backward_together<S: Semiring + Sync, R: Threads + Wait + Sync, G: 
     ensures few { IfOk result (λ f. length f.order.items ≤ limit) }
     ensures few_rules { IfOk result (λ f. length f.rules.items ≤ limit) }
     ensures fault { let hunted = inverse_image S.product transducer.now.rules grammar.now.rules in
-        IfErr result (IsApplyFault (demands true true false false) transducer.now.rules limit
+        IfErr result (IsApplyFault (demands true true false false false) transducer.now.rules limit
         (IsBeyond hunted limit)) }
 {
     let backward = Backward::new(alloc, transducer, grammar)?;

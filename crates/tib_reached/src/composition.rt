@@ -1,6 +1,6 @@
 //! The composition of two transducers: the pairs that are reached, with their rules.
 
-ghost use Rattle.std.specs.Prelude.{◌≤◌, length, IfOk, IfErr, true};
+ghost use Rattle.std.specs.Prelude.{◌≤◌, length, IfOk, IfErr, true, false};
 ghost use Rattle.tib_transducer.specs.Outside.{demands, AllMeet};
 ghost use Rattle.tib_expand.specs.Reached.{most_parts, IsBeyond};
 ghost use Rattle.tib_transducer.specs.Range.{AreShaped};
@@ -37,7 +37,8 @@ pub fn compose<S: Semiring, G: Gate>(
 ) -> Result<Found<StatePair, TransducerRule<u32>>, ComposeError>
     requires some { 1 ≤ limit }
     requires limit { limit ≤ most_parts }
-    ensures class { IfOk result (λ _. AllMeet (demands true true true true) second.now.rules) }
+    ensures class { IfOk result (λ _. AllMeet (demands true true true true false)
+        second.now.rules) }
     ensures reached { IfOk result (IsReachedBy S.product first.now.rules second.now.rules) }
     ensures range { IfOk result AreOverOrder }
     ensures shaped { IfOk result (λ f. AreShaped f.rules.items) }
@@ -67,7 +68,8 @@ pub fn compose_together<S: Semiring + Sync, R: Threads + Wait + Sync, G: Gate + 
     requires workers { (1 ≤ hunters.now.workers) × (hunters.now.workers ≤ 16) }
     requires some { 1 ≤ limit }
     requires limit { limit ≤ most_parts }
-    ensures class { IfOk result (λ _. AllMeet (demands true true true true) second.now.rules) }
+    ensures class { IfOk result (λ _. AllMeet (demands true true true true false)
+        second.now.rules) }
     ensures reached { IfOk result (IsReachedBy S.product first.now.rules second.now.rules) }
     ensures range { IfOk result AreOverOrder }
     ensures shaped { IfOk result (λ f. AreShaped f.rules.items) }

@@ -35,7 +35,7 @@ pub fn apply_forward<S: Semiring, G: Gate>(
 ) -> Result<Found<Key, Rule<u32>>, ApplyError>
     requires some { 1 ≤ limit }
     requires limit { limit ≤ most_parts }
-    ensures class { IfOk result (λ _. AllMeet (demands true false false false)
+    ensures class { IfOk result (λ _. AllMeet (demands true false false false false)
         transducer.now.rules) }
     ensures reached { IfOk result (IsReachedBy (forward_image S.product grammar.now.rules
         transducer.now.rules)) }
@@ -46,7 +46,7 @@ pub fn apply_forward<S: Semiring, G: Gate>(
     ensures few { IfOk result (λ f. length f.order.items ≤ limit) }
     ensures few_rules { IfOk result (λ f. length f.rules.items ≤ limit) }
     ensures fault { let hunted = forward_image S.product grammar.now.rules transducer.now.rules in
-        IfErr result (IsApplyFault (demands true false false false) transducer.now.rules limit
+        IfErr result (IsApplyFault (demands true false false false false) transducer.now.rules limit
         (IsBeyond hunted limit)) }
 {
     let forward = Forward::new(alloc, grammar, transducer)?;
@@ -67,7 +67,7 @@ pub fn apply_forward_together<S: Semiring + Sync, R: Threads + Wait + Sync, G: G
     requires workers { (1 ≤ hunters.now.workers) × (hunters.now.workers ≤ 16) }
     requires some { 1 ≤ limit }
     requires limit { limit ≤ most_parts }
-    ensures class { IfOk result (λ _. AllMeet (demands true false false false)
+    ensures class { IfOk result (λ _. AllMeet (demands true false false false false)
         transducer.now.rules) }
     ensures reached { IfOk result (IsReachedBy (forward_image S.product grammar.now.rules
         transducer.now.rules)) }
@@ -78,7 +78,7 @@ pub fn apply_forward_together<S: Semiring + Sync, R: Threads + Wait + Sync, G: G
     ensures few { IfOk result (λ f. length f.order.items ≤ limit) }
     ensures few_rules { IfOk result (λ f. length f.rules.items ≤ limit) }
     ensures fault { let hunted = forward_image S.product grammar.now.rules transducer.now.rules in
-        IfErr result (IsApplyFault (demands true false false false) transducer.now.rules limit
+        IfErr result (IsApplyFault (demands true false false false false) transducer.now.rules limit
         (IsBeyond hunted limit)) }
 {
     let forward = Forward::new(alloc, grammar, transducer)?;

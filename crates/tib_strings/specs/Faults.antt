@@ -6,7 +6,7 @@ use Rattle.tib_strings.specs.Rules.{string_rule}
 use Rattle.tib_strings.specs.Range.{IsLinear, IsNondeleting}
 use Rattle.tib_strings.specs.declared.StringRule.{StringRule}
 use Rattle.tib_transducer.specs.declared.error.ClassFault.{ClassFault}
-use Rattle.tib_transducer.specs.declared.error.ClassFault.TheVariants.{NotLinear, NotNondeleting, Extended, Labelled}
+use Rattle.tib_transducer.specs.declared.error.ClassFault.TheVariants.{NotLinear, NotNondeleting, Extended, Labelled, NotStrict}
 
 -- the number of each variable is among some
 abbrev pub AreAmong : List ℕ → List Variable → Type 0
@@ -20,6 +20,7 @@ HasFault NotLinear r = IsLinear r → ⊥
 HasFault NotNondeleting r = IsLinear r × (IsNondeleting r → ⊥)
 HasFault Extended r = ⊥
 HasFault Labelled r = ⊥
+HasFault NotStrict r = ⊥
 
 -- the rule with the number n, from 1, has the fault, and the rules before it are linear and
 -- nondeleting

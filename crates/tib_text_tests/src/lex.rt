@@ -118,14 +118,13 @@ fn a_long_line_is_read(rt: HostRuntime) {
 }
 
 // A kind of fault, and its words.
-static KINDS: [(FaultKind, &str); 12] = [
+static KINDS: [(FaultKind, &str); 11] = [
     (FaultKind::NoStart, "no start"),
     (FaultKind::BadToken, "bad token"),
     (FaultKind::BadRule, "bad rule"),
     (FaultKind::BadTree, "bad tree"),
     (FaultKind::LoneVariable, "lone variable on the left"),
     (FaultKind::VariableTwice, "variable twice on the left"),
-    (FaultKind::LabelledVariable, "labelled variable"),
     (FaultKind::UnknownVariable, "unknown variable"),
     (FaultKind::NotWhole, "weight is not a whole number"),
     (FaultKind::WeightTooLarge, "weight too large"),

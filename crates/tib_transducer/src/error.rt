@@ -17,6 +17,9 @@ pub enum ClassFault {
     /// A variable of its left side has a label.
     #[error("labelled")]
     Labelled,
+    /// Its right side is a lone pair.
+    #[error("not strict")]
+    NotStrict,
 }
 
 /// Why an operation cannot work on a transducer.

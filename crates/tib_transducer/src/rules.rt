@@ -2,12 +2,13 @@
 ghost use Rattle.std.specs.Prelude.{◌≡◌, ℕ, length, IsTrue, false};
 ghost use Rattle.tib_grammar.specs.Items.{holes_in};
 ghost use Rattle.tib_transducer.specs.Range.{IsShaped};
-ghost use Rattle.tib_transducer.specs.Classes.{IsLinear, IsNondeleting, IsExtended, IsLabelled};
+ghost use Rattle.tib_transducer.specs.Classes.{IsLinear, IsNondeleting, IsExtended, IsLabelled, IsStrict};
 ghost use Rattle.tib_transducer.specs.Counting.{HaveLabel};
+ghost use Rattle.tib_transducer.specs.Pairs.{begins};
 ghost use Rattle.tib_transducer.specs.Outside.{demands, IsAnswer};
 
 use crate::uses::{are_above_zero, are_at_most_one, count_uses};
-use crate::{ClassFault, TransducerRule, Variable};
+use crate::{ClassFault, Pair, TransducerRule, Variable};
 use tib_grammar::Item;
 
 // How many variables occur among some items.
@@ -97,6 +98,27 @@ fn is_labelled(rule: &TransducerRule<u32>) -> bool
     have_label(rule.left.items())
 }
 
+// Whether the first item is a label.
+fn begins_with_label(items: &[Item<Pair<u32>>]) -> bool
+    ensures { result ≡ begins items.now }
+{
+    match items.first() {
+        Some(first) => match first {
+            Item::Label { .. } => true,
+            Item::Hole(_) => false,
+        },
+        None => false,
+    }
+}
+
+// Whether the right side is no lone pair.
+fn is_strict(rule: &TransducerRule<u32>) -> bool
+    ensures yes { IsTrue result → IsStrict rule.now }
+    ensures no { result ≡ false → IsStrict rule.now → ⊥ }
+{
+    begins_with_label(rule.right.items())
+}
+
 /// The first class that is demanded and that the rule is outside of. It takes no memory.
 pub fn fault_of(
     rule: &TransducerRule<u32>,
@@ -104,9 +126,10 @@ pub fn fault_of(
     nondeleting: bool,
     one_label: bool,
     unlabelled: bool,
+    strict: bool,
 ) -> Option<ClassFault>
     requires { IsShaped rule.now }
-    ensures { IsAnswer (demands linear nondeleting one_label unlabelled) rule.now result }
+    ensures { IsAnswer (demands linear nondeleting one_label unlabelled strict) rule.now result }
 {
     if linear && !is_linear(rule) {
         return Some(ClassFault::NotLinear);
@@ -119,6 +142,9 @@ pub fn fault_of(
     }
     if unlabelled && is_labelled(rule) {
         return Some(ClassFault::Labelled);
+    }
+    if strict && !is_strict(rule) {
+        return Some(ClassFault::NotStrict);
     }
     None
 }

@@ -40,7 +40,6 @@ module _ {Right : List Word → List Item → Type 0} {read : List Word → Opti
   weight_fault scale line true (Some text) kinds.BadTree w make = absurd w
   weight_fault scale line true (Some text) kinds.LoneVariable w make = absurd w
   weight_fault scale line true (Some text) kinds.VariableTwice w make = absurd w
-  weight_fault scale line true (Some text) kinds.LabelledVariable w make = absurd w
   weight_fault scale line true (Some text) kinds.BadString w make = absurd w
   weight_fault scale line true (Some text) kinds.UnknownVariable w make = absurd w
   weight_fault scale line true (Some text) kinds.TooManyNodes w make = absurd w

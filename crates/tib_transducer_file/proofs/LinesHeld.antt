@@ -101,7 +101,6 @@ module _ {Right : List Word → List Item → Type 0} {read : List Word → Opti
   fault_read scale line kinds.TooManyNodes h = spelled_read scale line h.0 h.1 ∙ ap (λ b. cond b (Err kinds.TooManyNodes) (Ok (Some h.0))) h.2
   fault_read scale line kinds.NoStart h = absurd h
   fault_read scale line kinds.BadTree h = absurd h
-  fault_read scale line kinds.LabelledVariable h = absurd h
   fault_read scale line kinds.BadString h = absurd h
 
   -- a line without one

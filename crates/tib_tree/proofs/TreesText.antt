@@ -101,7 +101,6 @@ line_is line (Err kinds.NoStart) h = absurd h
 line_is line (Err kinds.BadRule) h = absurd h
 line_is line (Err kinds.LoneVariable) h = absurd h
 line_is line (Err kinds.VariableTwice) h = absurd h
-line_is line (Err kinds.LabelledVariable) h = absurd h
 line_is line (Err kinds.BadString) h = absurd h
 line_is line (Err kinds.UnknownVariable) h = absurd h
 line_is line (Err kinds.NotWhole) h = absurd h

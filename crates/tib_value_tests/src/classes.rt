@@ -47,7 +47,7 @@ const T_X0: Right = Right::Pair(0, 0);
 
 const T_X1: Right = Right::Pair(0, 1);
 
-static RULES: [Row<'static>; 6] = [
+static RULES: [Row<'static>; 7] = [
     // t.A(x0: x1:) -> B(t.x1 t.x0)
     (&[A, X0, X1], &[Right::Label(1, 2), T_X1, T_X0]),
     // t.A(x0: x1:) -> B(t.x1 t.x0 t.x1)
@@ -71,31 +71,48 @@ static RULES: [Row<'static>; 6] = [
         ],
         &[Right::Label(1, 2), T_X1, T_X1],
     ),
+    // t.A(x0: x1:) -> t.x0
+    (&[A, X0, X1], &[T_X0]),
 ];
 
 fn rules() -> &'static [Row<'static>] {
     &RULES
 }
 
-// Whether linear, nondeleting, not extended and not labelled rules are demanded, and the first rule
-// outside.
-type Demand = ([bool; 4], Option<(u32, ClassFault)>);
+// Whether linear, nondeleting, not extended, not labelled and strict rules are demanded, and the
+// first rule outside.
+type Demand = ([bool; 5], Option<(u32, ClassFault)>);
 
-static DEMANDS: [Demand; 5] = [
-    ([true, true, true, true], Some((2, ClassFault::NotLinear))),
+static DEMANDS: [Demand; 6] = [
     (
-        [false, true, true, true],
+        [true, true, true, true, true],
+        Some((2, ClassFault::NotLinear)),
+    ),
+    (
+        [false, true, true, true, true],
         Some((3, ClassFault::NotNondeleting)),
     ),
-    ([false, false, true, true], Some((4, ClassFault::Extended))),
-    ([false, false, false, true], Some((5, ClassFault::Labelled))),
-    ([false, false, false, false], None),
+    (
+        [false, false, true, true, true],
+        Some((4, ClassFault::Extended)),
+    ),
+    (
+        [false, false, false, true, true],
+        Some((5, ClassFault::Labelled)),
+    ),
+    (
+        [false, false, false, false, true],
+        Some((7, ClassFault::NotStrict)),
+    ),
+    ([false, false, false, false, false], None),
 ];
 
 // Whether the first rule outside of what is demanded is as it is there.
 fn is_answered(t: &Transducer<MinPlus>, demand: &Demand) -> bool {
     let (demands, want) = demand;
-    first_outside(t, demands[0], demands[1], demands[2], demands[3]) == *want
+    first_outside(
+        t, demands[0], demands[1], demands[2], demands[3], demands[4],
+    ) == *want
 }
 
 fn are_answered(t: &Transducer<MinPlus>) -> bool {

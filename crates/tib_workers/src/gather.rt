@@ -27,22 +27,6 @@ pub struct Gathered<P: Task + Copy> {
     pub shelves: Shelves<P>,
 }
 
-// Draws the items that no worker drew.
-fn draw_rest<P: Task + Copy>(task: P, items: &Items, seat: Seat)
-    requires counter { seat.counter ≡ items.now }
-    requires going { seat.nones ≡ 0 }
-    requires count { items.now.count ≡ P.count_of (P.about task) }
-    requires few { items.now.count < 2 ^ 32 }
-{
-    let mut seat = seat;
-    for _ in 0..items.count() {
-        let Some(item) = items.draw(&mut seat) else {
-            return;
-        };
-        task.pass(0, item as u32);
-    }
-}
-
 // Puts a row at its item's place if that is empty, and says whether it was.
 fn put_row<T: Drop>(slots: &mut Vec<Option<Row<T>>>, row: Row<T>) -> bool
     requires { row.item < length slots.old.items }
@@ -229,13 +213,10 @@ where
         share: _,
         rows,
         left: _,
-        going,
-        seat,
+        going: _,
+        seat: _,
         seats,
     } = hand;
-    if going {
-        draw_rest(task, items, seat);
-    }
     Ok((rows, seats))
 }
 

@@ -7,5 +7,5 @@ abbrev pub invariant-loop-rule : goal.invariant-loop-rule
 invariant-loop-rule g l = record {
   numbered : l.number ≡ l.rule-index;
   before : (m : ℕ) → m < l.rule-index →
-      Meets (demands l.linear l.nondeleting l.one_label l.unlabelled) (transducer_rule l.rule-items m);
+      Meets (demands l.linear l.nondeleting l.one_label l.unlabelled l.strict) (transducer_rule l.rule-items m);
 }
