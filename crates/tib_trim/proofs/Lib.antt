@@ -1,0 +1,9 @@
+pub mod RunsOf
+pub mod Complete
+pub mod CompleteRules
+pub mod Renumbered
+pub mod FirstSeen
+pub mod Numbered
+pub mod ToldItems
+pub mod Assembled
+pub mod Filtered
