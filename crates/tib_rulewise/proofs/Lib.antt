@@ -1,0 +1,13 @@
+pub mod Placed
+pub mod PlacedItems
+pub mod Items
+pub mod OverItems
+pub mod RuleTexts
+pub mod DerivedRules
+pub mod DerivationRuns
+pub mod Places
+pub mod Reordered
+pub mod Mirrored
+pub mod Inverting
+pub mod Twice
+pub mod Listing
