@@ -1,0 +1,10 @@
+pub mod Symbols
+pub mod Picking
+pub mod LeftOut
+pub mod Anything
+pub mod ReadBack
+pub mod ReadOn
+pub mod Series
+pub mod DomainByText
+pub mod Making
+pub mod Steps

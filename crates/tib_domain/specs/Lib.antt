@@ -1,0 +1,3 @@
+pub mod Alphabet
+pub mod Reading
+pub mod Domain
