@@ -5,14 +5,14 @@ use Rattle.std.specs.Prelude.{IsTrue}
 use Rattle.tib_lex.specs.Lists.{Along}
 use Rattle.tib_lex.proofs.Booleans.{either_way}
 use Rattle.tib_transducer.specs.Rules.{transducer_rule}
-use Rattle.tib_transducer.specs.Classes.{IsLinear, IsNondeleting, IsExtended, IsLabelled}
+use Rattle.tib_transducer.specs.Classes.{IsLinear, IsNondeleting, IsExtended, IsLabelled, IsStrict}
 use Rattle.tib_transducer.specs.declared.TransducerRule.{TransducerRule}
 use Rattle.tib_transducer_file.specs.ByText.{AreOneTransducerRule}
 use Rattle.tib_transducer.specs.Outside.{Demands, Meets, AllMeet, IsFaultOf, IsFirstOutside}
 use Rattle.tib_transducer.specs.declared.error.ClassFault.{ClassFault}
 use Rattle.tib_transducer.specs.declared.error.ClassFault.TheVariants as classes
 use Rattle.tib_operations.specs.Classes.{Demanded, nothing_demanded, demanded_of}
-use Rattle.tib_operations.proofs.OfCheck.{linear_to, linear_from, nondeleting_to, nondeleting_from, extended_to, extended_from, labelled_to, labelled_from, rules_long, rule_at}
+use Rattle.tib_operations.proofs.OfCheck.{linear_to, linear_from, nondeleting_to, nondeleting_from, extended_to, extended_from, labelled_to, labelled_from, strict_to, strict_from, rules_long, rule_at}
 
 -- one rule
 
@@ -23,6 +23,7 @@ module _ (labels others : List (List ℕ)) (d : Demands) (r s : TransducerRule �
     nondeleting = λ h. nondeleting_to labels others r s one (m.nondeleting h);
     one_label = λ h e. m.one_label h (extended_from labels others r s one e);
     unlabelled = λ h e. m.unlabelled h (labelled_from labels others r s one e);
+    strict = λ h. strict_to labels others r s one (m.strict h);
   }
 
   fault_to : (e : ClassFault) → IsFaultOf d r e → IsFaultOf d s e
@@ -36,6 +37,14 @@ module _ (labels others : List (List ℕ)) (d : Demands) (r s : TransducerRule �
     h.3,
     labelled_to labels others r s one h.4,
   )
+  fault_to classes.NotStrict h = (
+    λ t. linear_to labels others r s one (h.0 t),
+    λ t. nondeleting_to labels others r s one (h.1 t),
+    λ t k. h.2 t (extended_from labels others r s one k),
+    λ t k. h.3 t (labelled_from labels others r s one k),
+    h.4,
+    λ k. h.5 (strict_from labels others r s one k),
+  )
 
 module _ (d : Demands) (r : TransducerRule ℕ) where
   fault_not_met : (e : ClassFault) → IsFaultOf d r e → Meets d r → ⊥
@@ -43,24 +52,34 @@ module _ (d : Demands) (r : TransducerRule ℕ) where
   fault_not_met classes.NotNondeleting h m = h.2 (m.nondeleting h.1)
   fault_not_met classes.Extended h m = m.one_label h.2 h.3
   fault_not_met classes.Labelled h m = m.unlabelled h.3 h.4
+  fault_not_met classes.NotStrict h m = h.5 (m.strict h.4)
 
   one_fault : (e f : ClassFault) → IsFaultOf d r e → IsFaultOf d r f → e ≡ f
   one_fault classes.NotLinear classes.NotLinear a b = refl
   one_fault classes.NotLinear classes.NotNondeleting a b = absurd (a.1 (b.0 a.0))
   one_fault classes.NotLinear classes.Extended a b = absurd (a.1 (b.0 a.0))
   one_fault classes.NotLinear classes.Labelled a b = absurd (a.1 (b.0 a.0))
+  one_fault classes.NotLinear classes.NotStrict a b = absurd (a.1 (b.0 a.0))
   one_fault classes.NotNondeleting classes.NotLinear a b = absurd (b.1 (a.0 b.0))
   one_fault classes.NotNondeleting classes.NotNondeleting a b = refl
   one_fault classes.NotNondeleting classes.Extended a b = absurd (a.2 (b.1 a.1))
   one_fault classes.NotNondeleting classes.Labelled a b = absurd (a.2 (b.1 a.1))
+  one_fault classes.NotNondeleting classes.NotStrict a b = absurd (a.2 (b.1 a.1))
   one_fault classes.Extended classes.NotLinear a b = absurd (b.1 (a.0 b.0))
   one_fault classes.Extended classes.NotNondeleting a b = absurd (b.2 (a.1 b.1))
   one_fault classes.Extended classes.Extended a b = refl
   one_fault classes.Extended classes.Labelled a b = absurd (b.2 a.2 a.3)
+  one_fault classes.Extended classes.NotStrict a b = absurd (b.2 a.2 a.3)
   one_fault classes.Labelled classes.NotLinear a b = absurd (b.1 (a.0 b.0))
   one_fault classes.Labelled classes.NotNondeleting a b = absurd (b.2 (a.1 b.1))
   one_fault classes.Labelled classes.Extended a b = absurd (a.2 b.2 b.3)
   one_fault classes.Labelled classes.Labelled a b = refl
+  one_fault classes.Labelled classes.NotStrict a b = absurd (b.3 a.3 a.4)
+  one_fault classes.NotStrict classes.NotLinear a b = absurd (b.1 (a.0 b.0))
+  one_fault classes.NotStrict classes.NotNondeleting a b = absurd (b.2 (a.1 b.1))
+  one_fault classes.NotStrict classes.Extended a b = absurd (a.2 b.2 b.3)
+  one_fault classes.NotStrict classes.Labelled a b = absurd (a.3 b.3 b.4)
+  one_fault classes.NotStrict classes.NotStrict a b = refl
 
   holds : (X : Type 0) (b : Bool) → X ⊎ (X → ⊥) → (IsTrue b → X) ⊎ (IsTrue b × (X → ⊥))
   holds X true (inl x) = inl (λ e. x)
@@ -75,12 +94,14 @@ module _ (d : Demands) (r : TransducerRule ℕ) where
   by_classes :
       (IsTrue d.linear → IsLinear r) ⊎ (IsTrue d.linear × (IsLinear r → ⊥)) → (IsTrue d.nondeleting → IsNondeleting r) ⊎ (IsTrue d.nondeleting × (IsNondeleting r → ⊥)) →
       (IsTrue d.one_label → IsExtended r → ⊥) ⊎ (IsTrue d.one_label × IsExtended r) → (IsTrue d.unlabelled → IsLabelled r → ⊥) ⊎ (IsTrue d.unlabelled × IsLabelled r) →
+      (IsTrue d.strict → IsStrict r) ⊎ (IsTrue d.strict × (IsStrict r → ⊥)) →
       Meets d r ⊎ ((e : ClassFault) × IsFaultOf d r e)
-  by_classes (inl l) (inl n) (inl x) (inl b) = inl (record { linear = l; nondeleting = n; one_label = x; unlabelled = b })
-  by_classes (inr l) n x b = inr (classes.NotLinear, l)
-  by_classes (inl l) (inr n) x b = inr (classes.NotNondeleting, (l, n.0, n.1))
-  by_classes (inl l) (inl n) (inr x) b = inr (classes.Extended, (l, n, x.0, x.1))
-  by_classes (inl l) (inl n) (inl x) (inr b) = inr (classes.Labelled, (l, n, x, b.0, b.1))
+  by_classes (inl l) (inl n) (inl x) (inl b) (inl s) = inl (record { linear = l; nondeleting = n; one_label = x; unlabelled = b; strict = s })
+  by_classes (inr l) n x b s = inr (classes.NotLinear, l)
+  by_classes (inl l) (inr n) x b s = inr (classes.NotNondeleting, (l, n.0, n.1))
+  by_classes (inl l) (inl n) (inr x) b s = inr (classes.Extended, (l, n, x.0, x.1))
+  by_classes (inl l) (inl n) (inl x) (inr b) s = inr (classes.Labelled, (l, n, x, b.0, b.1))
+  by_classes (inl l) (inl n) (inl x) (inl b) (inr s) = inr (classes.NotStrict, (l, n, x, b, s.0, s.1))
 
   -- a rule is of each class that is demanded or has a fault: that neither holds cannot be
   met_or_fault : (Meets d r ⊎ ((e : ClassFault) × IsFaultOf d r e) → ⊥) → ⊥
@@ -89,7 +110,8 @@ module _ (d : Demands) (r : TransducerRule ℕ) where
       either_way (IsNondeleting r) (λ n.
       either_way (IsExtended r) (λ x.
       either_way (IsLabelled r) (λ b.
-      k (by_classes (holds (IsLinear r) d.linear l) (holds (IsNondeleting r) d.nondeleting n) (fails (IsExtended r) d.one_label x) (fails (IsLabelled r) d.unlabelled b))))))
+      either_way (IsStrict r) (λ s.
+      k (by_classes (holds (IsLinear r) d.linear l) (holds (IsNondeleting r) d.nondeleting n) (fails (IsExtended r) d.one_label x) (fails (IsLabelled r) d.unlabelled b) (holds (IsStrict r) d.strict s)))))))
 
 -- the first rule that is not
 

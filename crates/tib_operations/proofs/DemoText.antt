@@ -59,7 +59,7 @@ digits_in_front (suc k) n more h =
     let longer : List ℕ = digit_glyph false (n % 10) ∷ more in
     either_way (n / 10 == 0) longer (digits_onto k 10 false (n / 10) longer) (one_more n more h) (digits_in_front k (n / 10) (digit_glyph false (n % 10) ∷ more) (one_more n more h))
 
-all_digits : (n : ℕ) → list_all is_digit (decimal n) ≡ true
+pub all_digits : (n : ℕ) → list_all is_digit (decimal n) ≡ true
 unfolding digits
 all_digits n = digits_in_front 64 n [] refl
 

@@ -8,6 +8,7 @@ pub mod MadeParts
 pub mod OfWeigh
 pub mod OfInside
 pub mod OfNormal
+pub mod OfUnion
 pub mod OfIntersect
 pub mod OfCheck
 pub mod ClassesByText
@@ -39,8 +40,17 @@ pub mod WordsRead
 pub mod OneString
 pub mod ParseByText
 pub mod OfParse
+pub mod OfDomain
 pub mod AnswersByText
 pub mod AnswersExist
 pub mod BothByText
 pub mod OfForms
 pub mod OfCompare
+pub mod TextsAlike
+pub mod ShapesPlaced
+pub mod OfInvert
+pub mod OfRuns
+pub mod FirstSight
+pub mod KeptByText
+pub mod OfTrim
+pub mod OfThrough

@@ -7,7 +7,7 @@ use Rattle.tib_tree.specs.Trees.{Trees, none, tree, only}
 use Rattle.tib_grammar.specs.Sides.{Symbol, label, hole, holes, labels_in}
 use Rattle.tib_grammar_file.specs.ByText.{HaveOneShape}
 use Rattle.tib_transducer.specs.Rules.{transducer_rule, variables_of, variables_in}
-use Rattle.tib_transducer.specs.Classes.{IsLinear, IsNondeleting, IsExtended, IsLabelled}
+use Rattle.tib_transducer.specs.Classes.{IsLinear, IsNondeleting, IsExtended, IsLabelled, IsStrict}
 use Rattle.tib_transducer.specs.TransducerOf.{TransducerOf}
 use Rattle.tib_transducer.specs.declared.Variable.{Variable}
 use Rattle.tib_transducer.specs.declared.Pair.{Pair}
@@ -140,7 +140,24 @@ module _ (labels others : List (List ℕ)) where
   one_asks_back (x ∷ xs) (z ∷ ys) a y (inl same) g e = let f = asks_back x.label z.label g a.0.1 (ap (λ (v : Variable). v.label) same ∙ e) in (x, inl refl, f.0, f.1)
   one_asks_back (x ∷ xs) (z ∷ ys) a y (inr h) g e = let o = one_asks_back xs ys a.1 y h g e in (o.0, inr o.1, o.2, o.3)
 
+  -- a label at the root
+  label_along : (x y : Symbol ℕ (Pair ℕ)) → AgreeOnRight labels others x y → (f : ℕ) → x ≡ label f → (g : ℕ) × (y ≡ label g)
+  label_along (label h) (label g) a f e = (g, refl)
+  label_along (label h) (hole y) a f e = absurd a
+  label_along (hole x) y a f e = absurd (cc e)
+
+  label_back : (x y : Symbol ℕ (Pair ℕ)) → AgreeOnRight labels others x y → (g : ℕ) → y ≡ label g → (f : ℕ) × (x ≡ label f)
+  label_back (label f) (label h) a g e = (f, refl)
+  label_back (hole x) (label h) a g e = absurd a
+  label_back x (hole y) a g e = absurd (cc e)
+
   module _ (r s : TransducerRule ℕ) (one : AreOneTransducerRule labels others r s) where
+    pub strict_to : IsStrict r → IsStrict s
+    strict_to h = let g = label_along r.right.label s.right.label one.right.0 h.root h.is_root in record { root = g.0; is_root = g.1 }
+
+    pub strict_from : IsStrict s → IsStrict r
+    strict_from h = let f = label_back r.right.label s.right.label one.right.0 h.root h.is_root in record { root = f.0; is_root = f.1 }
+
     pub linear_to : IsLinear r → IsLinear s
     linear_to h = subst (λ (ns : List ℕ). Distinct ns) (used_same (only r.right) (only s.right) one.right) h
 

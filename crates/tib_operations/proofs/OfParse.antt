@@ -33,7 +33,7 @@ use Rattle.tib_image.specs.ParseOperation.{key_cmp, key_entries, edge_parts, par
 use Rattle.tib_image.proofs.Parses.{parse_means}
 use Rattle.tib_image.proofs.ReachedParses.{key_total, reached_grammar}
 use Rattle.tib_image.specs.ParseLaws.{same_edge}
-use Rattle.tib_canon.specs.Constructions.{at_first, edges_over, AreRulesOver, IsCanonicalOf}
+use Rattle.tib_canon.specs.Constructions.{at_first, edges_over, AreRulesOver, IsCanonicalOf, IsCanonicalFrom, HasGrammarText}
 use Rattle.tib_canon.specs.Keys.{IsCanonicalOverKeys}
 use Rattle.tib_canon.specs.declared.begin.Begin.{Begin}
 use Rattle.tib_canon.specs.declared.begin.Begin.TheVariants.{At}
@@ -197,11 +197,12 @@ module _
 pub parse_either : (limit : ℕ) (t : StringTransducerOf) (string : List ℕ) → IsEither (parse_makes limit t string)
 parse_either limit t string = reached_either limit (IsTheString string) (parsing t)
 
--- one text
-pub parse_once :
-    (scale : Scale) (product : ℕ → ℕ → ℕ) (limit : ℕ) (labels others : List (List ℕ)) (t u : StringTransducerOf) (s r text other : List ℕ) → Distinct labels → Distinct others →
-    AreOneStringTransducer labels others t u → AreOneString labels others s r → HasParseText scale product limit labels t s text → HasParseText scale product limit others u r other → text ≡ other
-parse_once scale product limit labels others t u s r text other apart different one same a b =
+-- one text of a canonical form of the keys, whatever series it is to have
+pub parsed_once :
+    {P Q : List (Rule ℕ) → Type 0} (scale : Scale) (product : ℕ → ℕ → ℕ) (limit : ℕ) (labels others : List (List ℕ)) (t u : StringTransducerOf) (s r text other : List ℕ) → Distinct labels → Distinct others →
+    AreOneStringTransducer labels others t u → AreOneString labels others s r → HasGrammarText scale labels (IsCanonicalFrom product scale labels limit (IsTheString s) (parsing t)) P text →
+    HasGrammarText scale others (IsCanonicalFrom product scale others limit (IsTheString r) (parsing u)) Q other → text ≡ other
+parsed_once scale product limit labels others t u s r text other apart different one same a b =
     let n = renumbering labels others apart different in
     a.are
     ∙ construction_once product scale limit labels others n.0 n.1 (parsing t a.canonical.from) (parsing u b.canonical.from) (parse_laws u.rules b.canonical.from) (record {
@@ -213,6 +214,12 @@ parse_once scale product limit labels others t u s r text other apart different 
           (parse_moved labels others apart different t u s r one same order es (subst (λ (x : List ℕ). IsReachedSet (parse t.rules x) order es) a.canonical.is_made reached));
     }) a.h b.h a.canonical.canonical b.canonical.canonical
     ∙ sym b.are
+
+-- one text
+pub parse_once :
+    (scale : Scale) (product : ℕ → ℕ → ℕ) (limit : ℕ) (labels others : List (List ℕ)) (t u : StringTransducerOf) (s r text other : List ℕ) → Distinct labels → Distinct others →
+    AreOneStringTransducer labels others t u → AreOneString labels others s r → HasParseText scale product limit labels t s text → HasParseText scale product limit others u r other → text ≡ other
+parse_once scale product limit labels others t u s r text other apart different one same a b = parsed_once scale product limit labels others t u s r text other apart different one same a b
 
 -- the series of the canonical form of the keys
 pub parse_has_series :

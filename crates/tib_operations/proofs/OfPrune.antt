@@ -130,7 +130,7 @@ module _ (product : ℕ → ℕ → ℕ) (rules : List (Rule ℕ)) where
       })
     ]
 
-    costs_there : ((insides outsides : ℕ → Option ℕ) → AreCosts product rules insides outsides → ⊥) → ⊥
+    pub costs_there : ((insides outsides : ℕ → Option ℕ) → AreCosts product rules insides outsides → ⊥) → ⊥
     costs_there k =
         insides_are product rules count (λ insides long are.
         outsides_are count (λ outsides as_long are_too.

@@ -1,9 +1,10 @@
--- A grammar that was read has a start, its states are in range, and nothing is below a state.
+-- A grammar that was read has a start and distinct state names, its states are in range, and
+-- nothing is below a state.
 use Rattle.tib_cost.specs.declared.Scale.{Scale}
-use Rattle.std.proofs.Common.{◌≡◌, ℕ, ◌<◌, ◌≤◌, List, [], ◌∷◌, length, ap, sym, subst, arith, zero, suc, inl, inr, length-append}
+use Rattle.std.proofs.Common.{◌≡◌, ℕ, ◌<◌, ◌≤◌, List, map, [], ◌∷◌, length, ap, sym, subst, arith, zero, suc, inl, inr, length-append}
 use Rattle.std.specs.Prelude.{Some, slice_get}
-use Rattle.tib_lex.specs.Grammar.{Word}
-use Rattle.tib_lex.specs.Lists.{Along}
+use Rattle.tib_lex.specs.Grammar.{Word, name}
+use Rattle.tib_lex.specs.Lists.{Along, Each}
 use Rattle.tib_tree.specs.Grows.{Adds, AddsAll}
 use Rattle.tib_tree.specs.Trees.{Trees, none, tree, only}
 use Rattle.tib_tree.specs.Written.{Written, end, leaf, head}
@@ -11,13 +12,15 @@ use Rattle.tib_grammar.proofs.Below.{below_append}
 use Rattle.tib_grammar.specs.Sides.{Symbol, label, hole, holes, HolesAreLeaves}
 use Rattle.tib_grammar.specs.GrammarOf.{GrammarOf}
 use Rattle.tib_grammar.specs.Range.{AllBelow, AreInRange, SidesEndInHoles}
+use Rattle.tib_grammar.specs.StateName.{IsStateName, AreStateNames}
 use Rattle.tib_grammar.specs.declared.Rule.{Rule}
-use Rattle.tib_grammar_file.specs.GrammarText.{Means, SpellsRuleOf, GrammarText}
+use Rattle.tib_grammar_file.specs.GrammarText.{Means, SpellsRuleOf, GrammarText, first_text}
+use Rattle.tib_grammar_file.proofs.TextRead.{first_words, FirstIsWord, all_names}
 
 get_below : (names : List (List ℕ)) (q : ℕ) (text : List ℕ) → slice_get names q ≡ Some text → q < length names
 get_below [] q text e = absurd (cc)
-get_below (name ∷ names) zero text e = omega arith
-get_below (name ∷ names) (suc q) text e = omega (arith, get_below names q text e)
+get_below (first ∷ names) zero text e = omega arith
+get_below (first ∷ names) (suc q) text e = omega (arith, get_below names q text e)
 
 module _ (names labels : List (List ℕ)) where
   leaves_of : (ts : Trees (Symbol ℕ ℕ)) (w : Written) → Means names labels ts w → HolesAreLeaves ts
@@ -68,15 +71,36 @@ first_adds text now (inr a) = omega (arith, ap length a.1)
 some_added : (text : List ℕ) (texts now : List (List ℕ)) → AddsAll [] (text ∷ texts) now → 0 < length now
 some_added text texts now a = omega (arith, first_adds text a.0 a.1, all_most a.0 texts now a.2)
 
+-- the names of left states are state names
+
+first_is_name : (scale : Scale) (names labels : List (List ℕ)) (words : List Word) (r : Rule ℕ) → SpellsRuleOf scale names labels words r → FirstIsWord words → IsStateName (first_text words)
+first_is_name scale names labels words r s f =
+    subst (λ (t : List ℕ). IsStateName t) (ap first_text s.words_are)
+    (record { is_name = subst (λ (ws : List Word). FirstIsWord ws) (sym s.words_are) f; no_stop = s.plain })
+
+firsts_are_names :
+    (scale : Scale) (names labels : List (List ℕ)) (rows : List (List Word)) (rules : List (Rule ℕ)) → Along (SpellsRuleOf scale names labels) rows rules → Each FirstIsWord rows → Each IsStateName (map first_text rows)
+firsts_are_names scale names labels [] rules a f = tt
+firsts_are_names scale names labels (w ∷ rows) [] a f = absurd a
+firsts_are_names scale names labels (w ∷ rows) (r ∷ rules) a f = (first_is_name scale names labels w r a.0 f.0, firsts_are_names scale names labels rows rules a.1 f.1)
+
+state_names : (scale : Scale) (labels : List (List ℕ)) (bytes : List ℕ) (g : GrammarOf) → GrammarText scale labels bytes g → AreStateNames g.names
+state_names scale labels bytes g t =
+    let f = first_words t.lines ((name t.start ∷ []) ∷ t.rows) t.tokens in
+    all_names [] (t.start ∷ map first_text t.rows) g.names t.states (record { each = tt; distinct = tt })
+    (record { is_name = f.0; no_stop = t.plain }, firsts_are_names scale g.names labels t.rows g.rules t.rules f.1)
+
 -- what holds of a grammar that was read
 pub record IsSound (g : GrammarOf) : Type 0 where
   pub start : 0 < length g.names
+  pub names : AreStateNames g.names
   pub range : AreInRange (length g.names) g.rules
   pub leaves : SidesEndInHoles g.rules
 
 pub read_sound : (scale : Scale) (labels : List (List ℕ)) (bytes : List ℕ) (g : GrammarOf) → GrammarText scale labels bytes g → IsSound g
 read_sound scale labels bytes g t = record {
   start = some_added t.start _ g.names t.states;
+  names = state_names scale labels bytes g t;
   range = range_of g.names labels scale t.rows g.rules t.rules;
   leaves = ends_of g.names labels scale t.rows g.rules t.rules;
 }

@@ -17,7 +17,7 @@ use Rattle.tib_operations.specs.Made.{Made, and_then, normal_form, reached_set}
 
 -- the transducer, which is the first file, is to be linear and nondeleting
 abbrev pub linear_nondeleting : Demands
-linear_nondeleting = demands true true false false
+linear_nondeleting = demands true true false false false
 
 abbrev pub backward_demands : TransducerOf → Demanded
 backward_demands t = demanded_of 1 linear_nondeleting t.rules

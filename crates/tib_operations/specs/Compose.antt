@@ -1,6 +1,6 @@
 -- `compose`: the transducer that does what the first and then the second does.
 use Rattle.tib_cost.specs.declared.Scale.{Scale}
-use Rattle.std.specs.Prelude.{◌≡◌, ℕ, List, true}
+use Rattle.std.specs.Prelude.{◌≡◌, ℕ, List, true, false}
 use Rattle.tib_expand.specs.Reached.{IsBeyond}
 use Rattle.tib_transducer.specs.TransducerOf.{TransducerOf}
 use Rattle.tib_transducer.specs.Outside.{Demands, demands}
@@ -12,7 +12,7 @@ use Rattle.tib_operations.specs.Made.{Made}
 
 -- the second transducer is to be linear, nondeleting, not extended and not labelled
 abbrev pub plain : Demands
-plain = demands true true true true
+plain = demands true true true true false
 
 abbrev pub compose_demands : TransducerOf → Demanded
 compose_demands u = demanded_of 2 plain u.rules

@@ -17,7 +17,7 @@ use Rattle.tib_operations.specs.Made.{Made, and_then, normal_form, reached_set}
 
 -- the transducer, which is the second file, is to be linear
 abbrev pub linear : Demands
-linear = demands true false false false
+linear = demands true false false false false
 
 abbrev pub forward_demands : TransducerOf → Demanded
 forward_demands t = demanded_of 2 linear t.rules

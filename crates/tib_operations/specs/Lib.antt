@@ -22,3 +22,9 @@ pub mod Words
 pub mod ByText
 pub mod Parse
 pub mod Compare
+pub mod Trim
+pub mod Through
+pub mod Union
+pub mod Runs
+pub mod Invert
+pub mod Domain
