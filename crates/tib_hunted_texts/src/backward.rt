@@ -51,8 +51,8 @@ fn canonical_of_inverse_image<S: Semiring + Drop>(
     requires within { IfOk hunted (λ f. f.parts ≤ limit) }
     requires few { IfOk hunted (λ f. length f.order.items ≤ limit) }
     requires few_rules { IfOk hunted (λ f. length f.rules.items ≤ limit) }
-    requires fault { IfErr hunted (IsApplyFault (demands true true false false) transducer.now.rules
-        limit
+    requires fault { IfErr hunted (IsApplyFault (demands true true false false false)
+        transducer.now.rules limit
         (IsBeyond (inverse_image S.product transducer.now.rules grammar.now.rules) limit)) }
     ensures canonical { IfOk result (λ h. IsCanonicalOf S.product S.SCALE labels.now limit
         (inverting S.product transducer.now grammar.now) h.grammar) }

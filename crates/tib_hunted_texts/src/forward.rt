@@ -51,7 +51,7 @@ fn canonical_of_forward_image<S: Semiring + Drop>(
     requires within { IfOk hunted (λ f. f.parts ≤ limit) }
     requires few { IfOk hunted (λ f. length f.order.items ≤ limit) }
     requires few_rules { IfOk hunted (λ f. length f.rules.items ≤ limit) }
-    requires fault { IfErr hunted (IsApplyFault (demands true false false false)
+    requires fault { IfErr hunted (IsApplyFault (demands true false false false false)
         transducer.now.rules limit
         (IsBeyond (forward_image S.product grammar.now.rules transducer.now.rules) limit)) }
     ensures canonical { IfOk result (λ h. IsCanonicalOf S.product S.SCALE labels.now limit
