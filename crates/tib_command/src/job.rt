@@ -31,6 +31,8 @@ pub enum Operation {
     KBest,
     /// The canonical grammar of the trees that two grammars have, at the products of their costs.
     Intersect,
+    /// The canonical grammar of the trees that either of two grammars has, at the lesser cost.
+    Union,
     /// The canonical grammar of the trees into which a transducer turns those of a grammar, at the
     /// least products of both costs.
     Forward,
@@ -55,6 +57,18 @@ pub enum Operation {
     Check,
     /// The canonical form of the part of a grammar that stays within a beam of its cheapest tree.
     Prune,
+    /// The rules of a grammar that stand in a complete run, as the file has them.
+    Trim,
+    /// The same rules, each at the least cost of a complete run in which it stands.
+    Through,
+    /// The transducer that turns each derivation of a grammar, a tree of numbers of rules, into the
+    /// tree that it yields.
+    Runs,
+    /// The transducer that turns the outputs of a transducer into their inputs, rule by rule.
+    Invert,
+    /// The canonical grammar of the trees that a transducer takes, each at the least cost over all
+    /// its outputs.
+    Domain,
     /// The determinization of a grammar that is made for a number: its size, and its cheapest tree.
     Demo,
 }

@@ -32,6 +32,7 @@ fn operation_in(text: &str) -> Option<Operation>
         "normal" => Some(Operation::Normal),
         "kbest" => Some(Operation::KBest),
         "intersect" => Some(Operation::Intersect),
+        "union" => Some(Operation::Union),
         "forward" => Some(Operation::Forward),
         "backward" => Some(Operation::Backward),
         "compose" => Some(Operation::Compose),
@@ -41,6 +42,11 @@ fn operation_in(text: &str) -> Option<Operation>
         "determinize" => Some(Operation::Determinize),
         "check" => Some(Operation::Check),
         "prune" => Some(Operation::Prune),
+        "trim" => Some(Operation::Trim),
+        "through" => Some(Operation::Through),
+        "runs" => Some(Operation::Runs),
+        "invert" => Some(Operation::Invert),
+        "domain" => Some(Operation::Domain),
         "demo" => Some(Operation::Demo),
         _ => None,
     }
@@ -137,10 +143,16 @@ fn word_count(operation: Operation) -> usize
         | Operation::KBest
         | Operation::Determinize
         | Operation::Check
-        | Operation::Prune => 1,
+        | Operation::Prune
+        | Operation::Trim
+        | Operation::Through
+        | Operation::Runs
+        | Operation::Invert
+        | Operation::Domain => 1,
         Operation::Demo => 0,
         Operation::Weigh
         | Operation::Intersect
+        | Operation::Union
         | Operation::Forward
         | Operation::Backward
         | Operation::Compose

@@ -54,6 +54,7 @@ module _ (labels others : List (List ℕ)) where
     fault_to classes.NotNondeleting h = (linear_to h.0, λ k. h.1 (nondeleting_from k))
     fault_to classes.Extended h = h
     fault_to classes.Labelled h = h
+    fault_to classes.NotStrict h = h
 
   rules_long : (rs ss : List (StringRule ℕ)) → Along (AreOneStringRule labels others) rs ss → length rs ≡ length ss
   rules_long [] [] a = refl
@@ -97,18 +98,22 @@ module _ (r : StringRule ℕ) where
   fault_not_met classes.NotNondeleting h l n = h.1 n
   fault_not_met classes.Extended h l n = h
   fault_not_met classes.Labelled h l n = h
+  fault_not_met classes.NotStrict h l n = h
 
   one_fault : (e f : ClassFault) → HasFault e r → HasFault f r → e ≡ f
   one_fault classes.NotLinear classes.NotLinear a b = refl
   one_fault classes.NotLinear classes.NotNondeleting a b = absurd (a b.0)
   one_fault classes.NotLinear classes.Extended a b = absurd b
   one_fault classes.NotLinear classes.Labelled a b = absurd b
+  one_fault classes.NotLinear classes.NotStrict a b = absurd b
   one_fault classes.NotNondeleting classes.NotLinear a b = absurd (b a.0)
   one_fault classes.NotNondeleting classes.NotNondeleting a b = refl
   one_fault classes.NotNondeleting classes.Extended a b = absurd b
   one_fault classes.NotNondeleting classes.Labelled a b = absurd b
+  one_fault classes.NotNondeleting classes.NotStrict a b = absurd b
   one_fault classes.Extended f a b = absurd a
   one_fault classes.Labelled f a b = absurd a
+  one_fault classes.NotStrict f a b = absurd a
 
   -- a rule is linear and nondeleting or has a fault: that neither holds cannot be
   met_or_fault : (((IsLinear r × IsNondeleting r) ⊎ ((e : ClassFault) × HasFault e r)) → ⊥) → ⊥

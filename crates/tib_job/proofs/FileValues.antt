@@ -12,14 +12,22 @@ use Rattle.tib_grammar_file.proofs.OneByText.{one_by_text}
 use Rattle.tib_grammar_file.proofs.TreesByText.{trees_by_text}
 use Rattle.tib_operations.specs.FileTexts.{ListsTrees}
 use Rattle.tib_job.specs.Kinds.{Kind, of_grammar, of_support, of_trees, of_one_tree, of_transducer, of_string_transducer, of_string, OfName, ValueOf, IsTextOf, IsOfKind, ValuesOf, AreTextsOf, AreTexts, AreOfKinds, AreAllTold}
+use Rattle.tib_grammar.specs.GrammarOf.{GrammarOf}
+use Rattle.tib_grammar_file.specs.ByName.{HasText as HasGrammarsText}
+use Rattle.tib_grammar_file.specs.GrammarText.{AreSmallRules}
 use Rattle.tib_grammar_file.specs.Printable.{ArePrintable}
+use Rattle.tib_grammar_file.specs.Read.{ReadsAs}
 use Rattle.tib_grammar_file.proofs.Plain.{read_plain}
 use Rattle.tib_operations.proofs.PlainMoves.{IsSoundTransducer, transducer_sound}
 use Rattle.tib_operations.proofs.OfCompose.{read_moves}
+use Rattle.tib_operations.proofs.OfRuns.{read_has_text}
 use Rattle.tib_canon.specs.TransducerKeys.{AreMovesOver}
 use Rattle.tib_operations.proofs.ReadSound.{IsSound, read_sound}
+use Rattle.tib_transducer.specs.TransducerOf.{TransducerOf}
+use Rattle.tib_transducer_file.specs.ByName.{HasText as HasTransducersText}
 use Rattle.tib_transducer_file.specs.ByText.{AreOneTransducer}
 use Rattle.tib_transducer_file.proofs.OneByText.{one_by_text as one_transducer}
+use Rattle.tib_transducer_file.proofs.ReadBack.{read_back}
 use Rattle.tib_operations.proofs.TransducerTables.{transducer_over, transducer_grown}
 use Rattle.tib_strings.specs.ByText.{AreOneStringTransducer}
 use Rattle.tib_strings.proofs.OneByText.{one_by_text as one_string_transducer}
@@ -166,13 +174,34 @@ kinds_told scale labels (k ∷ kinds) bytes values t zero kind e = subst (λ (z 
     of_kind (Some x) t = (labels, values.0, t)
 kinds_told scale labels (k ∷ kinds) bytes values t (suc n) kind e = kinds_told scale labels kinds (λ m. bytes (suc m)) values.1 t.1 n kind e
 
+-- a grammar that was read over known bytes is sound, and can be printed, also as it stands
+pub record IsSoundGrammar (scale : Scale) (labels : List (List ℕ)) (g : GrammarOf) : Type 0 where
+  pub sound : IsSound g
+  pub printable : ArePrintable scale labels g.rules
+  pub has_text : HasGrammarsText scale labels g
+  pub small : AreSmallRules g.rules
+
+grammar_sound : (scale : Scale) (labels : List (List ℕ)) (bytes : List ℕ) (g : GrammarOf) → ReadsAs scale labels bytes g → IsSoundGrammar scale labels g
+grammar_sound scale labels bytes g r = record {
+  sound = read_sound scale labels bytes g r.text;
+  printable = read_plain scale labels bytes g r.text;
+  has_text = read_has_text scale labels bytes g r.text;
+  small = r.small;
+}
+
+-- the same of a transducer
+pub record AreSoundMoves (scale : Scale) (labels : List (List ℕ)) (t : TransducerOf) : Type 0 where
+  pub sound : IsSoundTransducer scale labels t
+  pub moves : AreMovesOver scale labels (length t.names) t.rules
+  pub has_text : HasTransducersText scale labels t
+
 -- a value that was read over known bytes is sound, and can be printed
 abbrev pub IsSoundValue : Scale → List (List ℕ) → (kind : Kind) → ValueOf kind → Type 0
-IsSoundValue scale labels of_grammar g = IsSound g × ArePrintable scale labels g.rules
-IsSoundValue scale labels of_support g = IsSound g × ArePrintable Unweighted labels g.rules
+IsSoundValue scale labels of_grammar g = IsSoundGrammar scale labels g
+IsSoundValue scale labels of_support g = IsSoundGrammar Unweighted labels g
 IsSoundValue scale labels of_trees trees = Unit {0}
 IsSoundValue scale labels of_one_tree one = Unit {0}
-IsSoundValue scale labels of_transducer t = IsSoundTransducer scale labels t × AreMovesOver scale labels (length t.names) t.rules
+IsSoundValue scale labels of_transducer t = AreSoundMoves scale labels t
 IsSoundValue scale labels of_string_transducer t = IsSoundStringTransducer scale labels t
 IsSoundValue scale labels of_string string = Unit {0}
 
@@ -182,11 +211,12 @@ AllSound scale labels (kind ∷ kinds) values = IsSoundValue scale labels kind v
 
 sound_value : (scale : Scale) (labels : List (List ℕ)) (kind : Kind) (value : ValueOf kind) (bytes : Option (List ℕ)) → IsSome bytes → IfSome bytes (IsTextOf scale labels kind value) → IsSoundValue scale labels kind value
 sound_value scale labels kind value None told t = absurd (cc told)
-sound_value scale labels of_grammar g (Some bytes) told r = (read_sound scale labels bytes g r.1.text, read_plain scale labels bytes g r.1.text)
-sound_value scale labels of_support g (Some bytes) told r = (read_sound Unweighted labels bytes g r.1.text, read_plain Unweighted labels bytes g r.1.text)
+sound_value scale labels of_grammar g (Some bytes) told r = grammar_sound scale labels bytes g r.1
+sound_value scale labels of_support g (Some bytes) told r = grammar_sound Unweighted labels bytes g r.1
 sound_value scale labels of_trees trees (Some bytes) told l = tt
 sound_value scale labels of_one_tree one (Some bytes) told l = tt
-sound_value scale labels of_transducer t (Some bytes) told r = (transducer_sound scale labels bytes t r.1, read_moves scale labels bytes t r.1)
+sound_value scale labels of_transducer t (Some bytes) told r =
+    record { sound = transducer_sound scale labels bytes t r.1; moves = read_moves scale labels bytes t r.1; has_text = (read_back scale labels bytes t r.1).0 }
 sound_value scale labels of_string_transducer t (Some bytes) told r = string_transducer_sound scale labels bytes t r.1
 sound_value scale labels of_string string (Some bytes) told r = tt
 

@@ -33,6 +33,7 @@ as_many_kinds operations.Inside = refl
 as_many_kinds operations.Normal = refl
 as_many_kinds operations.KBest = refl
 as_many_kinds operations.Intersect = refl
+as_many_kinds operations.Union = refl
 as_many_kinds operations.Forward = refl
 as_many_kinds operations.Backward = refl
 as_many_kinds operations.Compose = refl
@@ -42,6 +43,11 @@ as_many_kinds operations.Compare = refl
 as_many_kinds operations.Determinize = refl
 as_many_kinds operations.Check = refl
 as_many_kinds operations.Prune = refl
+as_many_kinds operations.Trim = refl
+as_many_kinds operations.Through = refl
+as_many_kinds operations.Runs = refl
+as_many_kinds operations.Invert = refl
+as_many_kinds operations.Domain = refl
 as_many_kinds operations.Demo = refl
 
 first_test : (m n : ℕ) (b : Bool) → (m == n) && b ≡ true → m ≡ n

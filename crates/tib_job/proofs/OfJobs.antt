@@ -121,6 +121,7 @@ needs_met operations.Inside product numbers m low = tt
 needs_met operations.Normal product numbers m low = m
 needs_met operations.KBest product numbers m low = tt
 needs_met operations.Intersect product numbers m low = m
+needs_met operations.Union product numbers m low = m
 needs_met operations.Forward product numbers m low = m
 needs_met operations.Backward product numbers m low = m
 needs_met operations.Compose product numbers m low = m
@@ -130,6 +131,11 @@ needs_met operations.Compare product numbers m low = tt
 needs_met operations.Determinize product numbers m low = m
 needs_met operations.Check product numbers m low = tt
 needs_met operations.Prune product numbers m low = m
+needs_met operations.Trim product numbers m low = m
+needs_met operations.Through product numbers m low = m
+needs_met operations.Runs product numbers m low = tt
+needs_met operations.Invert product numbers m low = m
+needs_met operations.Domain product numbers m low = m
 needs_met operations.Demo product numbers m low = (m, low)
 
 -- the same for jobs

@@ -17,6 +17,7 @@ use Rattle.tib_operations.specs.Inside.{HasInsides}
 use Rattle.tib_operations.specs.Normal.{HasNormalText}
 use Rattle.tib_operations.specs.KBest.{HasKBestText}
 use Rattle.tib_operations.specs.Intersect.{HasIntersectionText}
+use Rattle.tib_operations.specs.Union.{HasUnionText}
 use Rattle.tib_operations.specs.Forward.{HasForwardText}
 use Rattle.tib_operations.specs.Backward.{HasBackwardText}
 use Rattle.tib_operations.specs.Compose.{HasComposeText}
@@ -25,6 +26,11 @@ use Rattle.tib_operations.specs.Determinize.{HasDeterminizedText}
 use Rattle.tib_operations.specs.Demo.{HasDemoText}
 use Rattle.tib_operations.specs.Check.{HasClasses}
 use Rattle.tib_operations.specs.Prune.{HasPruneText}
+use Rattle.tib_operations.specs.Trim.{HasTrimText}
+use Rattle.tib_operations.specs.Through.{HasThroughText}
+use Rattle.tib_operations.specs.Runs.{HasRunsText}
+use Rattle.tib_operations.specs.Invert.{HasInvertText}
+use Rattle.tib_operations.specs.Domain.{HasDomainText}
 use Rattle.tib_operations.specs.Parse.{HasParseText}
 use Rattle.tib_operations.specs.Compare.{HasCompareText}
 
@@ -35,6 +41,7 @@ IsResultOf operations.Inside scale product numbers labels values text = HasInsid
 IsResultOf operations.Normal scale product numbers labels values text = HasNormalText scale product numbers.limit labels values.0 text
 IsResultOf operations.KBest scale product numbers labels values text = HasKBestText scale product numbers.k labels values.0 text
 IsResultOf operations.Intersect scale product numbers labels values text = HasIntersectionText scale product numbers.limit labels values.0 values.1.0 text
+IsResultOf operations.Union scale product numbers labels values text = HasUnionText scale product numbers.limit labels values.0 values.1.0 text
 IsResultOf operations.Forward scale product numbers labels values text = HasForwardText scale product numbers.limit labels values.0 values.1.0 text
 IsResultOf operations.Backward scale product numbers labels values text = HasBackwardText scale product numbers.limit labels values.0 values.1.0 text
 IsResultOf operations.Compose scale product numbers labels values text = HasComposeText scale product numbers.limit labels values.0 values.1.0 text
@@ -44,6 +51,11 @@ IsResultOf operations.Compare scale product numbers labels values text = HasComp
 IsResultOf operations.Determinize scale product numbers labels values text = HasDeterminizedText scale product numbers.limit labels values.0 text
 IsResultOf operations.Check scale product numbers labels values text = HasClasses values.0 text
 IsResultOf operations.Prune scale product numbers labels values text = HasPruneText scale product numbers.beam labels values.0 text
+IsResultOf operations.Trim scale product numbers labels values text = HasTrimText scale product labels values.0 text
+IsResultOf operations.Through scale product numbers labels values text = HasThroughText scale product labels values.0 text
+IsResultOf operations.Runs scale product numbers labels values text = HasRunsText scale product labels values.0 text
+IsResultOf operations.Invert scale product numbers labels values text = HasInvertText scale product labels values.0 text
+IsResultOf operations.Domain scale product numbers labels values text = HasDomainText scale product numbers.limit labels values.0 text
 IsResultOf operations.Demo scale product numbers labels values text = HasDemoText scale product numbers.limit numbers.demo text
 
 -- The text answers the operation on files with these bytes: they are the texts of values, which are
@@ -72,6 +84,7 @@ NeedsOf operations.Inside product numbers = Unit {0}
 NeedsOf operations.Normal product numbers = MeetsLaws product numbers.limit
 NeedsOf operations.KBest product numbers = Unit {0}
 NeedsOf operations.Intersect product numbers = MeetsLaws product numbers.limit
+NeedsOf operations.Union product numbers = MeetsLaws product numbers.limit
 NeedsOf operations.Forward product numbers = MeetsLaws product numbers.limit
 NeedsOf operations.Backward product numbers = MeetsLaws product numbers.limit
 NeedsOf operations.Compose product numbers = MeetsLaws product numbers.limit
@@ -81,6 +94,11 @@ NeedsOf operations.Compare product numbers = Unit {0}
 NeedsOf operations.Determinize product numbers = MeetsLaws product numbers.limit
 NeedsOf operations.Check product numbers = Unit {0}
 NeedsOf operations.Prune product numbers = MeetsLaws product numbers.limit
+NeedsOf operations.Trim product numbers = MeetsLaws product numbers.limit
+NeedsOf operations.Through product numbers = MeetsLaws product numbers.limit
+NeedsOf operations.Runs product numbers = Unit {0}
+NeedsOf operations.Invert product numbers = MeetsLaws product numbers.limit
+NeedsOf operations.Domain product numbers = MeetsLaws product numbers.limit
 NeedsOf operations.Demo product numbers = MeetsLaws product numbers.limit × (numbers.demo ≤ most_demo)
 
 -- the text answers the job

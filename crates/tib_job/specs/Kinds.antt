@@ -1,7 +1,7 @@
 -- What the files of a job hold.
 use Rattle.tib_cost.specs.declared.Scale.{Scale}
 use Rattle.tib_cost.specs.declared.Scale.TheVariants as scales
-use Rattle.std.specs.Prelude.{◌≡◌, ℕ, List, [], ◌∷◌, Option, Some, None, IfSome, IsSome, slice_get}
+use Rattle.std.specs.Prelude.{◌≡◌, ◌⊎◌, ℕ, List, [], ◌∷◌, Option, Some, None, IfSome, IsSome, slice_get}
 use Rattle.std.proofs.Common.{zero, suc}
 use Rattle.tib_lex.specs.declared.fault.FileFault.{FileFault}
 use Rattle.tib_lex.specs.declared.fault.ReadError.{ReadError}
@@ -41,6 +41,7 @@ kinds_of operations.Inside = of_grammar ∷ []
 kinds_of operations.Normal = of_grammar ∷ []
 kinds_of operations.KBest = of_grammar ∷ []
 kinds_of operations.Intersect = of_grammar ∷ of_grammar ∷ []
+kinds_of operations.Union = of_grammar ∷ of_grammar ∷ []
 kinds_of operations.Forward = of_grammar ∷ of_transducer ∷ []
 kinds_of operations.Backward = of_transducer ∷ of_grammar ∷ []
 kinds_of operations.Compose = of_transducer ∷ of_transducer ∷ []
@@ -50,7 +51,36 @@ kinds_of operations.Compare = of_support ∷ of_support ∷ []
 kinds_of operations.Determinize = of_grammar ∷ []
 kinds_of operations.Check = of_transducer ∷ []
 kinds_of operations.Prune = of_grammar ∷ []
+kinds_of operations.Trim = of_grammar ∷ []
+kinds_of operations.Through = of_grammar ∷ []
+kinds_of operations.Runs = of_grammar ∷ []
+kinds_of operations.Invert = of_transducer ∷ []
+kinds_of operations.Domain = of_transducer ∷ []
 kinds_of operations.Demo = []
+
+-- the operation is one of these
+abbrev pub IsAmong : List Operation → Operation → Type 0
+IsAmong [] o = ⊥
+IsAmong (p ∷ []) o = o ≡ p
+IsAmong (p ∷ (q ∷ ps)) o = (o ≡ p) ⊎ IsAmong (q ∷ ps) o
+
+-- the operations on one grammar
+abbrev pub of_one_grammar : List Operation
+of_one_grammar =
+    operations.Inside ∷ operations.Normal ∷ operations.KBest ∷ operations.Determinize ∷ operations.Prune ∷ operations.Trim ∷ operations.Through ∷ operations.Runs ∷ []
+
+-- on two grammars
+abbrev pub of_two_grammars : List Operation
+of_two_grammars = operations.Intersect ∷ operations.Union ∷ []
+
+-- and on one transducer
+abbrev pub of_one_transducer : List Operation
+of_one_transducer = operations.Check ∷ operations.Invert ∷ operations.Domain ∷ []
+
+-- the operations that take two files
+abbrev pub of_two_files : List Operation
+of_two_files =
+    operations.Weigh ∷ operations.Intersect ∷ operations.Union ∷ operations.Forward ∷ operations.Backward ∷ operations.Compose ∷ operations.Image ∷ operations.Parse ∷ operations.Compare ∷ []
 
 -- what the n-th file of a job holds, from 1 on
 abbrev pub kind_at : Option Asked → ℕ → Option Kind

@@ -4,7 +4,10 @@ use Rattle.tib_cost.specs.declared.Scale.TheVariants.{Unweighted}
 use Rattle.std.specs.Prelude.{◌≡◌, ℕ, List, [], ◌∷◌, Option, Some, None, length}
 use Rattle.tib_lex.specs.Lists.{Each}
 use Rattle.tib_tree.specs.Growth.{HasLabels}
+use Rattle.tib_grammar_file.specs.ByName.{HasText as HasGrammarsText}
+use Rattle.tib_grammar_file.specs.GrammarText.{AreSmallRules}
 use Rattle.tib_grammar_file.specs.Printable.{ArePrintable}
+use Rattle.tib_transducer_file.specs.ByName.{HasText as HasTransducersText}
 use Rattle.tib_canon.specs.TransducerKeys.{AreMovesOver}
 use Rattle.tib_command.specs.declared.job.Operation.{Operation}
 use Rattle.tib_operations.specs.Moves.{ArePlainMoves}
@@ -28,19 +31,28 @@ values_as (those.StringTransducerAndString t string) (of_string_transducer ∷ (
 values_as those.Nothing [] = Some tt
 values_as values kinds = None
 
+-- the values are of kinds of which no operation takes a value apart
+abbrev pub AreLent : {S : Type 0} → Values S → Type 0
+AreLent (those.Grammar g) = ⊥
+AreLent (those.Grammars f g) = ⊥
+AreLent (those.Transducer t) = ⊥
+AreLent values = Unit {0}
+
 -- The values are those of the texts of an operation's files, over one table of labels.
 pub record AreValuesOf {S : Type 0} (scale : Scale) (labels : List (List ℕ)) (bytes : ℕ → Option (List ℕ)) (operation : Operation) (read : Values S) : Type 0 where
   pub values : ValuesOf (kinds_of operation)
   pub are : values_as read (kinds_of operation) ≡ Some values
   pub texts : AreTexts scale labels bytes (kinds_of operation) values
 
--- the labels and costs of a value of the kind can be written over the table of labels
+-- the labels and costs of a value of the kind can be written over the table of labels, and a
+-- grammar or a transducer that is written as it stands reads back
 abbrev pub IsPrintableValue : Scale → List (List ℕ) → (kind : Kind) → ValueOf kind → Type 0
-IsPrintableValue scale labels of_grammar g = ArePrintable scale labels g.rules
+IsPrintableValue scale labels of_grammar g = ArePrintable scale labels g.rules × HasGrammarsText scale labels g × AreSmallRules g.rules
 IsPrintableValue scale labels of_support g = ArePrintable Unweighted labels g.rules
 IsPrintableValue scale labels of_trees trees = Each (HasLabels labels) trees
 IsPrintableValue scale labels of_one_tree one = Unit {0}
-IsPrintableValue scale labels of_transducer t = ArePlainMoves scale labels t.rules × AreMovesOver scale labels (length t.names) t.rules
+IsPrintableValue scale labels of_transducer t =
+    ArePlainMoves scale labels t.rules × AreMovesOver scale labels (length t.names) t.rules × HasTransducersText scale labels t
 IsPrintableValue scale labels of_string_transducer t = ArePlainWords scale labels t.rules
 IsPrintableValue scale labels of_string string = Unit {0}
 

@@ -1,7 +1,7 @@
 // The values of all files of a job, over one table of labels.
 ghost use Rattle.std.specs.Prelude.{[], ◌∷◌, ◌≡◌, Some, length, IfErr, IfOk};
 ghost use Rattle.tib_command.specs.Jobs.{meaning, word_count};
-ghost use Rattle.tib_job.specs.Kinds.{AreTexts, kinds_of};
+ghost use Rattle.tib_job.specs.Kinds.{AreTexts, IsAmong, kinds_of, of_two_files};
 ghost use Rattle.tib_job.specs.Causes.{bytes_of, scale_of};
 ghost use Rattle.tib_job.specs.Steps.{EndsRun, LeavesFiles, files_seen};
 ghost use Rattle.tib_job.specs.Values.{AreValuesOf, ArePrintableValues, IsPrintableValue};
@@ -68,70 +68,93 @@ pub fn values_of<S: Semiring + Drop, F: Files>(
         (files_seen F.held F.sure F.faults files.new) }
 {
     match job.operation {
-        Operation::Weigh => match two_of::<Grammar<S>, Vec<Tree>, F>(alloc, job, files, labels) {
-            Ok((grammar, trees)) => Ok(Values::GrammarAndTrees(grammar, trees)),
-            Err(status) => Err(status),
-        },
         Operation::Inside
         | Operation::Normal
         | Operation::KBest
         | Operation::Determinize
-        | Operation::Prune => match one_of::<Grammar<S>, F>(alloc, job, files, labels) {
+        | Operation::Prune
+        | Operation::Trim
+        | Operation::Through
+        | Operation::Runs => match one_of::<Grammar<S>, F>(alloc, job, files, labels) {
             Ok(grammar) => Ok(Values::Grammar(grammar)),
             Err(status) => Err(status),
         },
-        Operation::Intersect => {
-            match two_of::<Grammar<S>, Grammar<S>, F>(alloc, job, files, labels) {
-                Ok((first, second)) => Ok(Values::Grammars(first, second)),
+        Operation::Check | Operation::Invert | Operation::Domain => {
+            match one_of::<Transducer<S>, F>(alloc, job, files, labels) {
+                Ok(transducer) => Ok(Values::Transducer(transducer)),
                 Err(status) => Err(status),
             }
         }
-        Operation::Forward => {
-            match two_of::<Grammar<S>, Transducer<S>, F>(alloc, job, files, labels) {
-                Ok((grammar, transducer)) => {
-                    Ok(Values::GrammarAndTransducer(grammar, transducer))
-                }
-                Err(status) => Err(status),
-            }
-        }
-        Operation::Backward => {
-            match two_of::<Transducer<S>, Grammar<S>, F>(alloc, job, files, labels) {
-                Ok((transducer, grammar)) => {
-                    Ok(Values::TransducerAndGrammar(transducer, grammar))
-                }
-                Err(status) => Err(status),
-            }
-        }
-        Operation::Compose => {
-            match two_of::<Transducer<S>, Transducer<S>, F>(alloc, job, files, labels) {
-                Ok((first, second)) => Ok(Values::Transducers(first, second)),
-                Err(status) => Err(status),
-            }
-        }
-        Operation::Image => match two_of::<Tree, Transducer<S>, F>(alloc, job, files, labels) {
-            Ok((tree, transducer)) => Ok(Values::TreeAndTransducer(tree, transducer)),
-            Err(status) => Err(status),
-        },
-        Operation::Parse => {
-            match two_of::<StringTransducer<S>, Vec<Label>, F>(alloc, job, files, labels) {
-                Ok((transducer, string)) => {
-                    Ok(Values::StringTransducerAndString(transducer, string))
-                }
-                Err(status) => Err(status),
-            }
-        }
-        Operation::Compare => match two_of::<Support, Support, F>(alloc, job, files, labels) {
-            Ok((first, second)) => Ok(Values::Supports(first, second)),
-            Err(status) => Err(status),
-        },
-        Operation::Check => match one_of::<Transducer<S>, F>(alloc, job, files, labels) {
-            Ok(transducer) => Ok(Values::Transducer(transducer)),
-            Err(status) => Err(status),
-        },
         Operation::Demo => {
             labels.len();
             Ok(Values::Nothing)
         }
+        Operation::Weigh
+        | Operation::Intersect
+        | Operation::Union
+        | Operation::Forward
+        | Operation::Backward
+        | Operation::Compose
+        | Operation::Image
+        | Operation::Parse
+        | Operation::Compare => values_of_both::<S, F>(alloc, job, files, labels),
+    }
+}
+
+// The same for an operation that takes two files.
+fn values_of_both<S: Semiring + Drop, F: Files>(
+    alloc: Global,
+    job: &Job,
+    files: &mut F,
+    labels: &mut Labels,
+) -> Result<Values<S>, Status>
+    requires both { IsAmong of_two_files job.now.operation }
+    requires files { length job.now.files.items ≡ 2 }
+    requires mode { S.SCALE ≡ scale_of job.now.mode }
+    requires labels { labels.old ≡ [] }
+    ensures texts { IfOk result (AreValuesOf S.SCALE labels.new
+        (bytes_of (meaning job.now) (F.held files.old)) job.now.operation) }
+    ensures printable { IfOk result (ArePrintableValues S.SCALE labels.new) }
+    ensures status { IfErr result (EndsRun (Some (meaning job.now))
+        (files_seen F.held F.sure F.faults files.old)
+        (files_seen F.held F.sure F.faults files.new)) }
+    ensures files { LeavesFiles (files_seen F.held F.sure F.faults files.old)
+        (files_seen F.held F.sure F.faults files.new) }
+{
+    match job.operation {
+        Operation::Weigh => match two_of(alloc, job, files, labels) {
+            Ok((grammar, trees)) => Ok(Values::GrammarAndTrees(grammar, trees)),
+            Err(status) => Err(status),
+        },
+        Operation::Intersect | Operation::Union => match two_of(alloc, job, files, labels) {
+            Ok((first, second)) => Ok(Values::Grammars(first, second)),
+            Err(status) => Err(status),
+        },
+        Operation::Forward => match two_of(alloc, job, files, labels) {
+            Ok((grammar, transducer)) => Ok(Values::GrammarAndTransducer(grammar, transducer)),
+            Err(status) => Err(status),
+        },
+        Operation::Backward => match two_of(alloc, job, files, labels) {
+            Ok((transducer, grammar)) => Ok(Values::TransducerAndGrammar(transducer, grammar)),
+            Err(status) => Err(status),
+        },
+        Operation::Compose => match two_of(alloc, job, files, labels) {
+            Ok((first, second)) => Ok(Values::Transducers(first, second)),
+            Err(status) => Err(status),
+        },
+        Operation::Image => match two_of(alloc, job, files, labels) {
+            Ok((tree, transducer)) => Ok(Values::TreeAndTransducer(tree, transducer)),
+            Err(status) => Err(status),
+        },
+        Operation::Parse => match two_of(alloc, job, files, labels) {
+            Ok((transducer, string)) => Ok(Values::StringTransducerAndString(transducer, string)),
+            Err(status) => Err(status),
+        },
+        Operation::Compare => match two_of(alloc, job, files, labels) {
+            Ok((first, second)) => Ok(Values::Supports(first, second)),
+            Err(status) => Err(status),
+        },
+        _ => unreachable!(),
     }
 }
 

@@ -16,7 +16,6 @@ kind_words kinds.BadRule = codes "bad rule\n"
 kind_words kinds.BadTree = codes "bad tree\n"
 kind_words kinds.LoneVariable = codes "lone variable on the left\n"
 kind_words kinds.VariableTwice = codes "variable twice on the left\n"
-kind_words kinds.LabelledVariable = codes "labelled variable\n"
 kind_words kinds.UnknownVariable = codes "unknown variable\n"
 kind_words kinds.NotWhole = codes "weight is not a whole number\n"
 kind_words kinds.WeightTooLarge = codes "weight too large\n"
@@ -32,6 +31,7 @@ class_words classes.NotLinear = codes "not linear\n"
 class_words classes.NotNondeleting = codes "not nondeleting\n"
 class_words classes.Extended = codes "extended\n"
 class_words classes.Labelled = codes "labelled\n"
+class_words classes.NotStrict = codes "not strict\n"
 
 abbrev pub class_line : ℕ → ℕ → ClassFault → List ℕ
 class_line file rule fault = (codes "tiburon: file " ++ decimal file ++ codes ": rule ") ++ (decimal rule ++ codes ": " ++ class_words fault)

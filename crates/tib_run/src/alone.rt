@@ -58,7 +58,7 @@ fn answer_job<S: Semiring + Sync + Drop, R: Threads + Sync, F: Files, O: Sink, G
     };
     write_outcome(
         out,
-        text_of::<S, R, G>(rt, alloc, job, &values, &labels, gate),
+        text_of::<S, R, G>(rt, alloc, job, values, labels, gate),
     )
 }
 

@@ -22,7 +22,6 @@ fn words_of(kind: FaultKind) -> &'static [u8]
         FaultKind::BadTree => b"bad tree\n",
         FaultKind::LoneVariable => b"lone variable on the left\n",
         FaultKind::VariableTwice => b"variable twice on the left\n",
-        FaultKind::LabelledVariable => b"labelled variable\n",
         FaultKind::UnknownVariable => b"unknown variable\n",
         FaultKind::NotWhole => b"weight is not a whole number\n",
         FaultKind::WeightTooLarge => b"weight too large\n",
@@ -41,6 +40,7 @@ fn words_of_class(fault: ClassFault) -> &'static [u8]
         ClassFault::NotNondeleting => b"not nondeleting\n",
         ClassFault::Extended => b"extended\n",
         ClassFault::Labelled => b"labelled\n",
+        ClassFault::NotStrict => b"not strict\n",
     }
 }
 

@@ -44,7 +44,7 @@ fn answer_together<
     };
     write_outcome(
         out,
-        text_together::<S, R, G>(rt, alloc, job, &values, &labels, gate),
+        text_together::<S, R, G>(rt, alloc, job, values, labels, gate),
     )
 }
 

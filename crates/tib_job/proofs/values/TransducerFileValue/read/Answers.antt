@@ -1,4 +1,5 @@
 use Rattle.std.proofs.lemmas.Result.{IfOk-weaker}
+use Rattle.tib_transducer_file.proofs.ReadBack.{read_back}
 use Rattle.tib_operations.proofs.OfCompose.{read_moves}
 use Rattle.tib_operations.proofs.PlainMoves.{moves_plain}
 use Rattle.tib_job.specs.Kinds.{of_transducer, IsTextOf}
@@ -16,6 +17,9 @@ pub returns-clause-printable : goal.returns-clause-printable
 returns-clause-printable g c =
     IfOk-weaker c.read_transducer.result _ _
     (λ transducer is scale same.
-    by_scale (λ s. IsPrintableValue s c.read_transducer.new.labels of_transducer transducer) g.S.Semiring.SCALE scale same
-    (moves_plain g.S.Semiring.SCALE c.read_transducer.new.labels c.args.bytes.now transducer is, read_moves g.S.Semiring.SCALE c.read_transducer.new.labels c.args.bytes.now transducer is))
+    by_scale (λ s. IsPrintableValue s c.read_transducer.new.labels of_transducer transducer) g.S.Semiring.SCALE scale same (
+      moves_plain g.S.Semiring.SCALE c.read_transducer.new.labels c.args.bytes.now transducer is,
+      read_moves g.S.Semiring.SCALE c.read_transducer.new.labels c.args.bytes.now transducer is,
+      (read_back g.S.Semiring.SCALE c.read_transducer.new.labels c.args.bytes.now transducer is).0,
+    ))
     c.read_transducer.ensures.text
