@@ -1,4 +1,5 @@
-//! Tests of applications of transducers: to grammars, to transducers, to a tree and to a string.
+//! Tests of applications of transducers: to grammars, to transducers, to a tree and to a string,
+//! and of what transducers read.
 #![tactic(auto)]
 
 #[cfg(test)]
@@ -7,6 +8,8 @@ mod applications;
 mod backward;
 #[cfg(test)]
 mod compositions;
+#[cfg(test)]
+mod domain;
 #[cfg(test)]
 mod forward;
 #[cfg(test)]

@@ -149,8 +149,12 @@ fn cases() -> &'static [Case] {
     &CASES
 }
 
-// Whether this is what was found, or the text of the error.
-fn is_told(alloc: Global, answer: Result<Found<Key, Rule<u32>>, ApplyError>, want: &str) -> bool {
+/// Whether this is what was found, or the text of the error.
+pub fn is_told(
+    alloc: Global,
+    answer: Result<Found<Key, Rule<u32>>, ApplyError>,
+    want: &str,
+) -> bool {
     match answer {
         Ok(found) => is_text(write_found(alloc, &found), want),
         Err(error) => is_text(error.to_string(alloc), want),

@@ -1,5 +1,5 @@
-//! Tests of constructions from grammars: intersection, determinization, the matches of a side, and
-//! the canonical forms of grammars and transducers.
+//! Tests of constructions from grammars: intersection, determinization, sums, the matches of a
+//! side, and the canonical forms of grammars and transducers.
 #![tactic(auto)]
 
 #[cfg(test)]
@@ -12,5 +12,7 @@ mod grammars;
 mod intersect;
 #[cfg(test)]
 mod matches;
+#[cfg(test)]
+mod sums;
 #[cfg(test)]
 mod transducers;

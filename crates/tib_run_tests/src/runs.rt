@@ -8,30 +8,43 @@ mod applied_rows;
 mod compared_rows;
 mod composed_rows;
 mod demo_rows;
+mod derived_rows;
 mod determinized_rows;
+mod domain_rows;
 mod gates;
 mod hunted_rows;
 mod image_rows;
+mod inverted_rows;
 mod kbest_rows;
+mod laws;
 mod meeting;
 mod parsed_rows;
 mod passing;
 mod rows;
 mod running;
+mod through_rows;
 mod transducer_rows;
+mod trimmed_rows;
+mod union_rows;
 mod watched;
 
 use applied_rows::{BACKWARD, FORWARD};
 use compared_rows::COMPARED;
 use composed_rows::COMPOSED;
 use demo_rows::{DEMONSTRATED, SEVEN};
+use derived_rows::DERIVED;
 use determinized_rows::DETERMINIZED;
+use domain_rows::DOMAINS;
 use image_rows::IMAGED;
+use inverted_rows::INVERTED;
 use kbest_rows::{LISTED, LISTED_OTHERS};
 use parsed_rows::PARSED;
 use rows::{INTERSECTED, ONE_FILE, PRUNED, Row, WEIGHED, WEIGHED_OTHERS, WIDEST};
 use running::{Calls, Outside, Ran, SOUND, run_words, run_words_alone};
+use through_rows::THROUGH;
 use transducer_rows::CHECKED;
+use trimmed_rows::TRIMMED;
+use union_rows::UNITED;
 
 // How a run is to end: its status, the line on the log, and what goes over.
 #[derive(Drop)]
@@ -446,6 +459,36 @@ fn checked() -> &'static [Row] {
     &CHECKED
 }
 
+// The rows on `union`.
+fn united() -> &'static [Row] {
+    &UNITED
+}
+
+// The rows on `trim`.
+fn trimmed() -> &'static [Row] {
+    &TRIMMED
+}
+
+// The rows on `through`.
+fn through() -> &'static [Row] {
+    &THROUGH
+}
+
+// The rows on `runs`.
+fn derived() -> &'static [Row] {
+    &DERIVED
+}
+
+// The rows on `invert`.
+fn inverted() -> &'static [Row] {
+    &INVERTED
+}
+
+// The rows on `domain`.
+fn domains() -> &'static [Row] {
+    &DOMAINS
+}
+
 // The rows on `demo`.
 fn demonstrated() -> &'static [Row] {
     &DEMONSTRATED
@@ -501,6 +544,24 @@ fn trees_of_a_string_and_supports_are_as_worked_out(rt: HostRuntime) {
 fn the_mode_widest_and_determinizations_are_as_worked_out(rt: HostRuntime) {
     assert_eq!(rt; first_wrong(&rt, rt.alloc(), widest()), None);
     assert_eq!(rt; first_wrong(&rt, rt.alloc(), determinized()), None);
+}
+
+#[test]
+fn unions_and_domains_are_as_worked_out(rt: HostRuntime) {
+    assert_eq!(rt; first_wrong(&rt, rt.alloc(), united()), None);
+    assert_eq!(rt; first_wrong(&rt, rt.alloc(), domains()), None);
+}
+
+#[test]
+fn rules_in_complete_runs_are_as_worked_out(rt: HostRuntime) {
+    assert_eq!(rt; first_wrong(&rt, rt.alloc(), trimmed()), None);
+    assert_eq!(rt; first_wrong(&rt, rt.alloc(), through()), None);
+}
+
+#[test]
+fn derivations_and_inverses_are_as_worked_out(rt: HostRuntime) {
+    assert_eq!(rt; first_wrong(&rt, rt.alloc(), derived()), None);
+    assert_eq!(rt; first_wrong(&rt, rt.alloc(), inverted()), None);
 }
 
 #[test]

@@ -15,6 +15,8 @@ mod normal;
 #[cfg(test)]
 mod rules;
 #[cfg(test)]
+mod rulewise;
+#[cfg(test)]
 mod string_file;
 #[cfg(test)]
 mod strings;
@@ -26,3 +28,5 @@ mod transducer;
 mod transducer_file;
 #[cfg(test)]
 mod transducer_print;
+#[cfg(test)]
+mod trimmed;

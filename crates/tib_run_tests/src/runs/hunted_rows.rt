@@ -16,7 +16,7 @@ const LEAVES_MADE: &str = "q\nq.A(x0: x1:) -> S(r.x0 s.x1)\nr.a -> a\ns.b -> b\n
 
 const LEAVES_SPELLED: &str = "q\nq.S(x0: x1:) -> r.x0 s.x1\nr.a -> u\ns.b -> v\n";
 
-pub static HUNTED: [Hunt; 9] = [
+pub static HUNTED: [Hunt; 10] = [
     (
         (
             &["intersect", "G", "T"],
@@ -94,6 +94,19 @@ pub static HUNTED: [Hunt; 9] = [
         ),
         7,
         21,
+        1,
+    ),
+    (
+        (
+            &["domain", "G"],
+            LEAVES_MADE,
+            "",
+            Status::Done,
+            "q0\nq0 -> A(q1 q2) # 0\nq1 -> a # 0\nq2 -> b # 0\n",
+            "",
+        ),
+        3,
+        3,
         1,
     ),
     // the labels without children are the seeds
