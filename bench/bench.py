@@ -367,6 +367,20 @@ def deep_trees(depth, number):
     return ["".join(random.choice("ab") + "(" for _ in range(depth)) + "e" + ")" * depth for _ in range(number)]
 
 
+def reading_transducer(rules, states=20000):
+    """A linear transducer of so many rules, one in four of which leaves a variable out."""
+    random.seed(41)
+    lines = ["s0"]
+    while len(lines) <= rules:
+        number = len(lines) - 1
+        rank = (0, 1, 2, 2)[number // states % 4]
+        reads = "L%d(%s)" % (random.randrange(500), " ".join("x%d:" % it for it in range(rank))) if rank else "w%d" % random.randrange(20000)
+        used = range(rank - 1) if number % 4 == 0 and rank else range(rank)
+        pairs = " ".join("s%d.x%d" % (random.randrange(states), it) for it in used)
+        lines.append("s%d.%s -> %s # %d" % (number % states, reads, "M(%s)" % pairs if pairs else "m", random.randrange(10)))
+    return lines
+
+
 # ---- the table
 
 def row(name, measured, amount, unit):
@@ -390,6 +404,9 @@ def families():
         ("kbest of a trie, k = 100", lambda n: ("-k", "100", "kbest", write("trie%d.grammar" % n, trie(n * 31250)))),
         ("prune of a trie", lambda n: ("prune", write("trie%d.grammar" % n, trie(n * 31250)))),
         ("normal of a trie", lambda n: ("normal", write("trie%d.grammar" % n, trie(n * 31250)))),
+        ("through of a trie", lambda n: ("through", write("trie%d.grammar" % n, trie(n * 31250)))),
+        ("union of two grammars", lambda n: ("union", *[write("grow%d-%d.grammar" % (n, states), flat_grammar(n * (MEGABYTE - 4096), states)) for states in (2000, 1999)])),
+        ("domain", lambda n: ("domain", write("reading%d.transducer" % n, reading_transducer(n * 12500, n * 2500)))),
     ):
         yield name, [words(n) for n in SIZES]
 
@@ -458,6 +475,9 @@ def main(program):
     row("inside of that trie", measure(program, "inside", grammar), size, "MB/s")
     row("normal of that trie", measure(program, "normal", grammar), size, "MB/s")
     row("prune of that trie", measure(program, "prune", grammar), size, "MB/s")
+    row("trim of that trie", measure(program, "trim", grammar), size, "MB/s")
+    row("through of that trie", measure(program, "through", grammar), size, "MB/s")
+    row("runs of that trie", measure(program, "runs", grammar), size, "MB/s")
     for k in (1, 100, 10000):
         row("kbest of that trie, k = %d" % k, measure(program, "-k", str(k), "kbest", grammar), 0.25, "million rules/s")
     random.seed(29)
@@ -469,6 +489,11 @@ def main(program):
         row("kbest of a forest over 30 words, %d rules, k = %d" % (len(lines) - 1, k), measure(program, "-k", str(k), "kbest", write("packed.grammar", lines)), (len(lines) - 1) / 1e6, "million rules/s")
     row("inside of 18,000 rules over 700 states", measure(program, "inside", path("weigh.grammar")), 18000 / 1e6, "million rules/s")
     row("normal of 18,000 rules over 700 states", measure(program, "normal", path("weigh.grammar")), 18000 / 1e6, "million rules/s")
+
+    large = path("large.grammar")
+    size = os.path.getsize(large) / MEGABYTE
+    row("normal of an 8 MB grammar", measure(program, "normal", large), size, "MB/s")
+    row("union of two such grammars", measure(program, "union", large, write("other.grammar", flat_grammar(MOST - 4096, 1999))), 2 * size, "MB/s")
 
     two = [write("monadic%d.grammar" % seed, monadic(800, seed)) for seed in (11, 12)]
     pairs = subprocess.run([program, "intersect", *two], capture_output=True, check=False).stdout.splitlines()
@@ -487,6 +512,11 @@ def main(program):
     both = [write("words%d.transducer" % seed, turning_words(800, seed)) for seed in (11, 12)]
     composed = subprocess.run([program, "compose", *both], capture_output=True, check=False).stdout.splitlines()
     row("compose two transducers of 800 states: %d rules" % (len(composed) - 1), measure(program, "compose", *both), (len(composed) - 1) / 1e6, "million rules/s")
+
+    lines = turning_letters(20000)
+    size = sum(len(line) + 1 for line in lines) / MEGABYTE
+    row("invert of %d rules, text to text" % (len(lines) - 1), measure(program, "invert", write("letters.transducer", lines)), size, "MB/s")
+    row("domain of 100,000 rules, one in four with a variable left out", measure(program, "domain", write("reading.transducer", reading_transducer(100000))), 0.1, "million rules/s")
 
     grammar, *sides = [write("matches.%s" % name, lines) for name, lines in zip(("grammar", "forward", "backward"), many_matches(30))]
     for words in (("forward", grammar, sides[0]), ("backward", sides[1], grammar)):
