@@ -123,9 +123,9 @@ fn derivations_of<S>(
 /// variable for each state on the right, and outputs the right-hand side, at the same cost. So it
 /// reads a run of the grammar as a tree of these labels, and outputs the tree that the run yields,
 /// at the cost of the run. The table gets the labels that it lacks. Err only if memory is refused,
-/// or the table would have 2^32 texts or more; the table then keeps what it had, with some of the
-/// labels after it. Cost: one pass over the items of the rules, and one look-up by hash for each
-/// label.
+/// a side has 2^32 items or more, or the table would have 2^32 texts or more; the table then keeps
+/// what it had, with some of the labels after it. Cost: one pass over the items of the rules, and
+/// one look-up by hash for each label.
 pub fn derivations<S: Semiring>(
     alloc: Global,
     grammar: Grammar<S>,

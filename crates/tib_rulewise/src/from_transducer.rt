@@ -202,8 +202,8 @@ fn inverse_rule_by_rule<S>(
 /// which `first_outside` of `tib_transducer` tells: it reads what the transducer outputs and
 /// outputs what that reads, at the same cost. It has the states of the transducer, and for each
 /// rule, in order, the rule with the sides exchanged. It has an inverse too, which is the
-/// transducer. Err only if memory is refused; the transducer is then gone. Cost: one pass over the
-/// items of all sides.
+/// transducer. Err only if memory is refused or a side has 2^32 items or more; the transducer is
+/// then gone. Cost: one pass over the items of all sides.
 pub fn inverse<S: Semiring>(
     alloc: Global,
     transducer: Transducer<S>,

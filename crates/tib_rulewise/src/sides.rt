@@ -23,7 +23,7 @@ pub fn count_holes<P>(items: &[Item<P>]) -> usize
     count
 }
 
-/// The side with some items. Err only if they are 2^32 or more, which memory does not hold.
+/// The side with some items. Err only if they are 2^32 or more.
 pub fn side_of<P: Drop>(items: Vec<Item<P>>) -> Result<Side<P>, AllocError>
     requires { IsOneTree (pairs_of items.items) }
     ensures { IfOk result (λ s. preorder_of s ≡ pairs_of items.items) }
@@ -38,7 +38,8 @@ pub fn side_of<P: Drop>(items: Vec<Item<P>>) -> Result<Side<P>, AllocError>
     }
 }
 
-/// One label over the variables 0, 1 and so on, this many. Err only if memory is refused.
+/// One label over the variables 0, 1 and so on, this many. Err only if memory is refused, or they
+/// are 2^32 - 1 or more.
 pub fn over_variables(alloc: Global, label: Label, count: u32) -> Result<Side<Variable>, AllocError>
     ensures { IfOk result (λ s. s ≡ over_of label (variables_from 0 count)) }
 {
