@@ -6,7 +6,7 @@ use Rattle.tib_lex.specs.Lists.{Has}
 use Rattle.tib_lex.proofs.Lists.{has_mapped, mapped_has}
 use Rattle.tib_lex.proofs.Members.{has_at, at_has, has_left, has_right, has_either}
 use Rattle.tib_tree.specs.Trees.{Trees, none, tree, count, only, first_trees}
-use Rattle.tib_grammar.specs.Sides.{label, holes, leaves, over, fill}
+use Rattle.tib_grammar.specs.Sides.{holes, leaves, over, fill}
 use Rattle.tib_grammar.proofs.Sides.{fill-AreHoles, first_all, holes-leaves, AreHoles-leaves, holes_of-over}
 use Rattle.tib_cost.specs.Semiring.{ProductLaws}
 use Rattle.tib_cost.proofs.Times.{product-zero}

@@ -6,7 +6,7 @@ use Rattle.indexmap.specs.IndexSet.{insert_key, insert_all}
 use Rattle.tib_lex.specs.Lists.{Along, Distinct}
 use Rattle.tib_lex.proofs.Numbers.{nat_eq_cases}
 use Rattle.tib_tree.specs.Trees.{Trees, none, tree, count, only, preorder, preorder_of}
-use Rattle.tib_grammar.specs.Sides.{Symbol, label, hole, Side as SideFor, holes, holes_of, leaves, over}
+use Rattle.tib_grammar.specs.Sides.{Symbol, label, hole, Side as SideFor, holes, holes_of, leaves}
 use Rattle.tib_grammar_file.specs.ByText.{HaveOneShape, HaveOneText}
 use Rattle.tib_grammar_file.proofs.Renumbering.{Renumbers, renumbering}
 use Rattle.tib_transducer.specs.Rules.{variables_of, variables_in}

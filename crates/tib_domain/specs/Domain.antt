@@ -1,5 +1,5 @@
 -- The series of the domain of a transducer: what it costs to read a tree, whatever is put out.
-use Rattle.std.specs.Prelude.{◌≡◌, ◌↔◌, ◌<◌, ℕ, List, [], ◌∷◌, length, Option, None}
+use Rattle.std.specs.Prelude.{◌↔◌, ◌<◌, ℕ, List, [], ◌∷◌, Option, None}
 use Rattle.tib_tree.specs.Trees.{Tree, only}
 use Rattle.tib_cost.specs.Least.{IsLeast}
 use Rattle.tib_grammar.specs.Series.{IsSeries}
