@@ -5,7 +5,7 @@ use Rattle.tib_cost.specs.declared.Scale.{Scale}
 use Rattle.tib_cost.specs.declared.Scale.TheVariants as scales
 use Rattle.std.specs.Prelude.{if◌then◌else◌}
 use Rattle.std.specs.List.{list_any, range_with_len}
-use Rattle.std.proofs.Common.{◌≡◌, ℕ, ◌+◌, ◌-◌, ◌<◌, Bool, true, false, List, [], ◌∷◌, ◌++◌, length, map, refl, sym, subst, arith, zero, suc, get_or}
+use Rattle.std.proofs.Common.{◌≡◌, ℕ, ◌-◌, ◌<◌, Bool, true, false, List, [], ◌∷◌, ◌++◌, length, map, refl, sym, subst, arith, zero, suc, get_or}
 use Rattle.indexmap.specs.IndexSet.{insert_key, insert_all}
 use Rattle.tib_lex.specs.Lines.{HasNoFeed}
 use Rattle.tib_lex.specs.Lists.{Distinct, Each}
