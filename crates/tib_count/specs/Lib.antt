@@ -1,0 +1,8 @@
+pub mod Counts
+pub mod Counted
+pub mod Products
+pub mod Links
+pub mod Edges
+pub mod Order
+pub mod Sums
+pub mod Laws

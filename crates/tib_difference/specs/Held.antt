@@ -1,0 +1,28 @@
+-- Lists by numbers.
+use Rattle.std.specs.Prelude.{◌≡◌, ℕ, ◌≤◌, nat_eq, if◌then◌else◌, List, [], ◌∷◌, ◌++◌, length, map, take}
+use Rattle.std.specs.Global.{Vec}
+use Rattle.std.proofs.Common.{get_or}
+use Rattle.tib_lex.specs.Lists.{Has}
+use Rattle.tib_grammar.specs.declared.Rule.{Rule}
+use Rattle.tib_difference.specs.Difference.{KeyOf}
+use Rattle.tib_difference.specs.Tries.{positions_of, states_in}
+
+-- the list of a number, empty where there is none
+abbrev pub held : {A : Type 0} → List (Vec A) → ℕ → List A
+held lists q = get_or (map (λ b. b.items) lists) q []
+
+-- each number has the same list
+abbrev pub HoldSame : {A : Type 0} → List (Vec A) → List (Vec A) → Type 0
+HoldSame old new = (q : ℕ) → held new q ≡ held old q
+
+-- a number has one more value, as its last
+abbrev pub HoldsMore : {A : Type 0} → ℕ → A → List (Vec A) → List (Vec A) → Type 0
+HoldsMore number value old new = (q : ℕ) → held new q ≡ (if nat_eq number q then held old q ++ value ∷ [] else held old q)
+
+-- each state has the positions below n whose keys have it
+abbrev pub AreHolders : List KeyOf → ℕ → List (Vec ℕ) → Type 0
+AreHolders order n lists = (q : ℕ) → held lists q ≡ positions_of (take n order) q
+
+-- where some of these rules has two places or more
+abbrev pub HoldIfWide : List (Rule ℕ) → List KeyOf → ℕ → List (ℕ × ℕ) → List (Vec ℕ) → Type 0
+HoldIfWide one order n us lists = (u : ℕ × ℕ) → Has us u → 2 ≤ length (states_in one u.0) → AreHolders order n lists

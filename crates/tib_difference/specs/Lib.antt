@@ -1,0 +1,17 @@
+pub mod Subsets
+pub mod Difference
+pub mod Series
+pub mod OneEdge
+pub mod Keys
+pub mod Shapes
+pub mod Lefts
+pub mod Ending
+pub mod KeyRules
+pub mod KeyLaws
+pub mod Tries
+pub mod Held
+pub mod Listing
+pub mod Answered
+pub mod Underway
+pub mod Using
+pub mod Walks

@@ -1,0 +1,106 @@
+//! The choices of a walk: the positions that may be at a place, and the lists of positions that go
+//! on with them.
+
+ghost use Rattle.std.specs.Prelude.{◌≡◌, ℕ, ◌<◌, ◌≤◌, ◌^◌, ◌∷◌, ◌++◌, [], length, map, if◌then◌else◌, IsTrue, IfOk, OnOk};
+ghost use Rattle.tib_grammar.specs.Items.{state_in};
+ghost use Rattle.tib_difference.specs.Held.{AreHolders};
+ghost use Rattle.tib_difference.specs.Tries.{below_at, choices_at, grown, itself_at};
+ghost use Rattle.tib_difference.specs.Walks.{IsStuck, prefixes_of};
+
+use crate::lists::{list_of, state_at};
+use crate::walk::Walk;
+use std::alloc::{AllocError, Global};
+use tib_grammar::Item;
+
+// The positions below a walk's one that may be at a place.
+fn below<'w>(walk: &Walk<'w>, states: &[Item<u32>], place: u32) -> &'w [u32]
+    requires place { place < length states.now }
+    requires last { walk.now.place < length states.now }
+    requires holders { 2 ≤ length states.now → AreHolders walk.now.order.now walk.now.position
+        walk.now.holders.now }
+    ensures { result.now ≡ below_at (map state_in states.now) walk.now.order.now walk.now.position
+        walk.now.place place }
+{
+    if place == walk.place {
+        return &[];
+    }
+    list_of(walk.holders, state_at(states, place))
+}
+
+// Whether the position of a walk may itself be at a place.
+fn is_allowed(walk: &Walk<'_>, states: &[Item<u32>], place: u32) -> bool
+    ensures { itself_at (map state_in states.now) walk.now.position walk.now.place place
+        ≡ (if result then walk.now.position ∷ [] else []) }
+{
+    place <= walk.place && state_at(states, place) == state_at(states, walk.place)
+}
+
+/// Whether no position may be at some place.
+pub(crate) fn is_stuck(walk: &Walk<'_>, states: &[Item<u32>], rank: u32) -> bool
+    requires many { rank ≡ length states.now }
+    requires last { walk.now.place < length states.now }
+    requires holders { 2 ≤ length states.now → AreHolders walk.now.order.now walk.now.position
+        walk.now.holders.now }
+    ensures { IsTrue result → IsStuck (choices_at (map state_in states.now) walk.now.order.now
+        walk.now.position walk.now.place) rank }
+{
+    for place in 0..rank {
+        if below(walk, states, place).is_empty() && !is_allowed(walk, states, place) {
+            return true;
+        }
+    }
+    false
+}
+
+// Some positions, and one after them.
+fn with_position(alloc: Global, prefix: &[u32], position: u32) -> Result<Vec<u32>, AllocError>
+    ensures { IfOk result (λ v. v.items ≡ prefix.now ++ position ∷ []) }
+{
+    let mut all = Vec::with_capacity(alloc, prefix.len() + 1)?;
+    for other in prefix {
+        all.push(*other)?;
+    }
+    all.push(position)?;
+    Ok(all)
+}
+
+// Puts a prefix onto a stack, with each of some positions after it.
+fn push_grown(
+    alloc: Global,
+    prefix: &[u32],
+    positions: &[u32],
+    stack: &mut Vec<Vec<u32>>,
+) -> Result<(), AllocError>
+    ensures { OnOk result (prefixes_of stack.new.items ≡ prefixes_of stack.old.items
+        ++ grown prefix.now positions.now) }
+{
+    for position in positions {
+        stack.push(with_position(alloc, prefix, *position)?)?;
+    }
+    Ok(())
+}
+
+/// Puts a prefix onto a stack, with each position after it that may be at the next place.
+pub(crate) fn push_choices(
+    alloc: Global,
+    walk: &Walk<'_>,
+    states: &[Item<u32>],
+    prefix: &[u32],
+    stack: &mut Vec<Vec<u32>>,
+) -> Result<(), AllocError>
+    requires next { length prefix.now < length states.now }
+    requires many { length states.now < 2 ^ 32 }
+    requires last { walk.now.place < length states.now }
+    requires holders { 2 ≤ length states.now → AreHolders walk.now.order.now walk.now.position
+        walk.now.holders.now }
+    ensures { OnOk result (prefixes_of stack.new.items ≡ prefixes_of stack.old.items
+        ++ grown prefix.now (choices_at (map state_in states.now) walk.now.order.now
+        walk.now.position walk.now.place (length prefix.now))) }
+{
+    let place = prefix.len() as u32;
+    push_grown(alloc, prefix, below(walk, states, place), stack)?;
+    if is_allowed(walk, states, place) {
+        stack.push(with_position(alloc, prefix, walk.position)?)?;
+    }
+    Ok(())
+}

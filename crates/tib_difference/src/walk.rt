@@ -1,0 +1,189 @@
+//! The edges of a rule of the first grammar, over all lists of positions in which a position is
+//! last at one place.
+
+ghost use Rattle.std.specs.Prelude.{◌≡◌, ℕ, ◌+◌, ◌<◌, ◌≤◌, ◌^◌, ◌∷◌, ◌++◌, [], length, map, IfOk, OnOk, Err, false};
+ghost use Rattle.tib_lex.specs.Lists.{Each, Has};
+ghost use Rattle.tib_grammar.specs.Forms.{AreNormal, IsNormalSide};
+ghost use Rattle.tib_grammar.specs.Run.{rule_at};
+ghost use Rattle.tib_expand.specs.Reached.{most_parts};
+ghost use Rattle.tib_difference.specs.Listing.{Adds, Exceed, HasAll, IsWithinBudget, Overruns};
+ghost use Rattle.tib_difference.specs.Shapes.{IsIndex};
+ghost use Rattle.tib_difference.specs.Held.{AreHolders};
+ghost use Rattle.tib_difference.specs.Tries.{leaf_try, leaves_of, states_in, tries_at};
+
+use crate::choices::{is_stuck, push_choices};
+use crate::listing::KeyListing;
+use crate::subset::{Second, subset_over};
+use crate::subset_key::SubsetKey;
+use std::alloc::Global;
+use tib_expand::ExpandError;
+use tib_grammar::Rule;
+
+/// What a walk goes over: the edges of a rule of the first grammar over keys of an order, where a
+/// position is last at a place. The holders are the positions below it by the states of their keys.
+#[derive(Clone, Copy)]
+pub(crate) struct Walk<'w> {
+    pub first: &'w [Rule<u32>],
+    pub second: Second<'w>,
+    pub order: &'w [SubsetKey],
+    pub holders: &'w [Vec<u32>],
+    pub rule: u32,
+    pub place: u32,
+    pub position: u32,
+}
+
+/// Lists the edge of a rule of the first grammar over the keys at some positions.
+pub(crate) fn list_edge(
+    alloc: Global,
+    walk: &Walk<'_>,
+    positions: Vec<u32>,
+    listing: &mut KeyListing,
+) -> Result<(), ExpandError>
+    requires first { AreNormal walk.now.first.now }
+    requires second { AreNormal walk.now.second.rules.now }
+    requires indexed { IsIndex walk.now.second.rules.now walk.now.second.index.now }
+    requires rule { walk.now.rule < length walk.now.first.now }
+    requires positions { Each (λ p. p < length walk.now.order.now) positions.items }
+    requires few { length positions.items < 2 ^ 32 }
+    requires within { IsWithinBudget listing.old }
+    ensures added { OnOk result (Adds walk.now.first.now walk.now.second.rules.now
+        walk.now.order.now ((walk.now.rule, positions.items) ∷ []) listing.old listing.new) }
+    ensures more { result ≡ Err ExpandError.More → Overruns walk.now.first.now
+        walk.now.second.rules.now walk.now.order.now ((walk.now.rule, positions.items) ∷ [])
+        listing.old }
+    ensures within { OnOk result (IsWithinBudget listing.new) }
+    ensures budget { listing.new.budget ≡ listing.old.budget }
+{
+    let rule = &walk.first[walk.rule as usize];
+    let (label, _) = rule.root();
+    let Ok(subset) = subset_over(alloc, &walk.second, label, walk.order, &positions) else {
+        return Err(ExpandError::OutOfMemory);
+    };
+    listing.add(
+        label,
+        positions,
+        rule.cost,
+        SubsetKey::new(rule.left, subset),
+    )
+}
+
+// Lists the edge of a rule of the first grammar, if it has no states.
+fn list_leaf(
+    alloc: Global,
+    first: &[Rule<u32>],
+    second: &Second<'_>,
+    number: u32,
+    listing: &mut KeyListing,
+) -> Result<(), ExpandError>
+    requires first { AreNormal first.now }
+    requires second { AreNormal second.now.rules.now }
+    requires indexed { IsIndex second.now.rules.now second.now.index.now }
+    requires rule { number < length first.now }
+    requires within { IsWithinBudget listing.old }
+    ensures added { OnOk result (Adds first.now second.now.rules.now []
+        (leaf_try number (rule_at first.now number)) listing.old listing.new) }
+    ensures more { result ≡ Err ExpandError.More → Overruns first.now second.now.rules.now []
+        (leaf_try number (rule_at first.now number)) listing.old }
+    ensures within { OnOk result (IsWithinBudget listing.new) }
+    ensures budget { listing.new.budget ≡ listing.old.budget }
+{
+    let rule = &first[number as usize];
+    let (_, rank) = rule.root();
+    if rank != 0 {
+        return Ok(());
+    }
+    let walk = Walk {
+        first,
+        second: *second,
+        order: &[],
+        holders: &[],
+        rule: number,
+        place: 0,
+        position: 0,
+    };
+    list_edge(alloc, &walk, Vec::new(alloc), listing)
+}
+
+/// Lists the edges of the rules of the first grammar without states.
+pub(crate) fn list_leaves(
+    alloc: Global,
+    first: &[Rule<u32>],
+    second: &Second<'_>,
+    budget: u64,
+) -> Result<KeyListing, ExpandError>
+    requires first { AreNormal first.now }
+    requires second { AreNormal second.now.rules.now }
+    requires indexed { IsIndex second.now.rules.now second.now.index.now }
+    requires few { length first.now < 2 ^ 32 }
+    requires budget { budget ≤ most_parts }
+    ensures listed { IfOk result (HasAll first.now second.now.rules.now [] (leaves_of first.now)) }
+    ensures more { result ≡ Err ExpandError.More → Exceed first.now second.now.rules.now []
+        (leaves_of first.now) budget }
+    ensures within { IfOk result IsWithinBudget }
+    ensures budget { IfOk result (λ l. l.budget ≡ budget) }
+{
+    let mut listing = KeyListing::new(alloc, budget);
+    for number in 0..first.len() {
+        match list_leaf(alloc, first, second, number as u32, &mut listing) {
+            Ok(()) => {}
+            Err(fault) => return Err(fault),
+        }
+    }
+    Ok(listing)
+}
+
+/// Lists the edges of a rule over all lists of positions in which a position is last at a place. It
+/// goes over prefixes of these lists, each with a choice at its next place, and over none where
+/// some place has no choice. `More` exactly where an edge has more parts than the budget leaves.
+/// Worst case: one step for each choice of each prefix, so at most as many for each edge as the
+/// rule has places.
+pub(crate) fn list_tries(
+    alloc: Global,
+    walk: &Walk<'_>,
+    listing: &mut KeyListing,
+) -> Result<(), ExpandError>
+    requires first { AreNormal walk.now.first.now }
+    requires second { AreNormal walk.now.second.rules.now }
+    requires indexed { IsIndex walk.now.second.rules.now walk.now.second.index.now }
+    requires rule { walk.now.rule < length walk.now.first.now }
+    requires place { walk.now.place < length (states_in walk.now.first.now walk.now.rule) }
+    requires position { walk.now.position < length walk.now.order.now }
+    requires holders { 2 ≤ length (states_in walk.now.first.now walk.now.rule) →
+        AreHolders walk.now.order.now walk.now.position walk.now.holders.now }
+    requires within { IsWithinBudget listing.old }
+    ensures added { OnOk result (Adds walk.now.first.now walk.now.second.rules.now
+        walk.now.order.now (tries_at walk.now.first.now walk.now.order.now walk.now.position
+        walk.now.rule walk.now.place) listing.old listing.new) }
+    ensures more { result ≡ Err ExpandError.More → Overruns walk.now.first.now
+        walk.now.second.rules.now walk.now.order.now (tries_at walk.now.first.now
+        walk.now.order.now walk.now.position walk.now.rule walk.now.place) listing.old }
+    ensures within { OnOk result (IsWithinBudget listing.new) }
+    ensures budget { listing.new.budget ≡ listing.old.budget }
+{
+    let rule = &walk.first[walk.rule as usize];
+    let (_, rank) = rule.root();
+    let states = rule.states_below();
+    if is_stuck(walk, states, rank) {
+        return Ok(());
+    }
+    let mut stack = Vec::new(alloc);
+    let Ok(()) = stack.push(Vec::new(alloc)) else {
+        return Err(ExpandError::OutOfMemory);
+    };
+    for _turn in 0..u64::MAX {
+        let Some(prefix) = stack.pop() else {
+            return Ok(());
+        };
+        if prefix.len() < rank as usize {
+            let Ok(()) = push_choices(alloc, walk, states, &prefix, &mut stack) else {
+                return Err(ExpandError::OutOfMemory);
+            };
+            continue;
+        }
+        match list_edge(alloc, walk, prefix, listing) {
+            Ok(()) => {}
+            Err(fault) => return Err(fault),
+        }
+    }
+    Err(ExpandError::OutOfMemory)
+}
