@@ -1,3 +1,5 @@
+pub mod Differences
 pub mod Handed
 pub mod Pairs
 pub mod Telling
+pub mod Counting

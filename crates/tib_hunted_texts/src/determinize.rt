@@ -45,9 +45,9 @@ fn finals_of<S: Semiring>(
     Ok(Finals::new(pairs))
 }
 
-// The canonical form of the vectors of a trimmed form that a hunt returned, or the status with
-// which the run ends.
-fn canonical_of_vectors<S: Semiring + Drop>(
+/// The canonical form of the vectors of a trimmed form that a hunt returned, or the status with
+/// which the run ends.
+pub(crate) fn canonical_of_vectors<S: Semiring + Drop>(
     alloc: Global,
     form: &Normal<S>,
     labels: &Labels,

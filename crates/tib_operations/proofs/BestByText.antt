@@ -54,7 +54,7 @@ module _ (labels others : List (List ℕ)) where
 
 -- what rules under other numbers of labels yield is what trees become under these numbers
 module _ (f : ℕ → ℕ) (rules : List (Rule ℕ)) where
-  yields_exchanged : (qs : List ℕ) (runs : Trees ℕ) → AreRuns rules qs runs → relabel f (yields rules runs) ≡ yields (rules_with f rules) runs
+  pub yields_exchanged : (qs : List ℕ) (runs : Trees ℕ) → AreRuns rules qs runs → relabel f (yields rules runs) ≡ yields (rules_with f rules) runs
   yields_exchanged [] none h = refl
   yields_exchanged [] (tree n runs rest) h = absurd h
   yields_exchanged (q ∷ qs) none h = absurd h
@@ -88,6 +88,18 @@ module _ (f : ℕ → ℕ) (rules : List (Rule ℕ)) where
         costs = cost_kept rules (rules_with f rules) (differ_with f rules) product (0 ∷ []) k.runs are ∙ k.costs;
       }
 
+-- trees that become one tree are one tree
+pub one_tree : (f : ℕ → ℕ) (ts : Trees ℕ) (u : Tree ℕ) → relabel f ts ≡ only u → (t : Tree ℕ) × (relabel_tree f t ≡ u) × (ts ≡ only t)
+one_tree f none u e = absurd (cc e)
+one_tree f (tree i kids none) u e =
+    let a : f i ≡ u.label = cc e in
+    let b : relabel f kids ≡ u.kids = cc e in (
+      record { label = i; kids = kids },
+      ap (λ (z : ℕ). record { label = z; kids = relabel f kids }) a ∙ ap (λ (z : Trees ℕ). record { label = u.label; kids = z }) b,
+      refl,
+    )
+one_tree f (tree i kids (tree j below rest)) u e = absurd (cc e)
+
 module _
     (product : ℕ → ℕ → ℕ) (labels others : List (List ℕ)) (g h : GrammarOf) (apart : Distinct labels) (different : Distinct others) (agree : AgreeByText labels others g h)
     (f : ℕ → ℕ) (numbers : Renumbers labels others f) where
@@ -110,19 +122,11 @@ module _
       (subst (λ (rs : List (Rule ℕ)). IsTreeAt product rs 0 (moved x)) (sym rules) m)
 
   -- each tree that has a cost by the other rules is such a tree
-  one_tree : (ts : Trees ℕ) (u : Tree ℕ) → relabel f ts ≡ only u → (t : Tree ℕ) × (relabel_tree f t ≡ u)
-  one_tree none u e = absurd (cc e)
-  one_tree (tree i kids none) u e =
-      let a : f i ≡ u.label = cc e in
-      let b : relabel f kids ≡ u.kids = cc e in
-      (record { label = i; kids = kids }, ap (λ (z : ℕ). record { label = z; kids = relabel f kids }) a ∙ ap (λ (z : Trees ℕ). record { label = u.label; kids = z }) b)
-  one_tree (tree i kids (tree j below rest)) u e = absurd (cc e)
-
   pub member_is : (y : Costed) → IsTreeAt product h.rules 0 y → (x : Costed) × (moved x ≡ y)
   member_is y m =
       let k : IsCost product (rules_with f g.rules) (0 ∷ []) (only y.0) y.1 =
       subst (λ (rs : List (Rule ℕ)). IsCost product rs (0 ∷ []) (only y.0) y.1) (sym rules) m.attained.0 in
-      let t = one_tree (yields g.rules k.runs) y.0 (yields_exchanged f g.rules (0 ∷ []) k.runs (runs_from f g.rules product (only y.0) y.1 k) ∙ k.yielded) in
+      let t = one_tree f (yields g.rules k.runs) y.0 (yields_exchanged f g.rules (0 ∷ []) k.runs (runs_from f g.rules product (only y.0) y.1 k) ∙ k.yielded) in
       ((t.0, y.1), ap (λ (z : Tree ℕ). (z, y.1)) t.1)
 
   -- its labels have the same texts

@@ -165,7 +165,7 @@ rules_once names kept g h a b leaves others =
     (kept_at names kept g a n k ∙ sym (kept_at names kept h b n l))))
 
 module _ (product : ℕ → ℕ → ℕ) (g : GrammarOf) where
-  positions_once : (ps qs : List ℕ) → AreInCompleteRuns product g.rules ps → AreInCompleteRuns product g.rules qs → ps ≡ qs
+  pub positions_once : (ps qs : List ℕ) → AreInCompleteRuns product g.rules ps → AreInCompleteRuns product g.rules qs → ps ≡ qs
   positions_once ps qs a b =
       ascending_same ◌<◌ below_way ps qs a.ascend b.ascend (λ n h. (b.are n).1 ((a.are n).0 h)) (λ n h. (a.are n).1 ((b.are n).0 h))
 

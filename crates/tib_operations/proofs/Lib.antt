@@ -54,3 +54,9 @@ pub mod FirstSight
 pub mod KeptByText
 pub mod OfTrim
 pub mod OfThrough
+pub mod RunsKept
+pub mod DifferenceByText
+pub mod PlainDifference
+pub mod OfDifference
+pub mod CountByText
+pub mod OfCount

@@ -28,3 +28,5 @@ pub mod Union
 pub mod Runs
 pub mod Invert
 pub mod Domain
+pub mod Difference
+pub mod Count
