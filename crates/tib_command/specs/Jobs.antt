@@ -53,6 +53,7 @@ operation_in text = if bytes_eq text (codes "weigh") then Some o.Weigh
     else (if bytes_eq text (codes "kbest") then Some o.KBest
     else (if bytes_eq text (codes "intersect") then Some o.Intersect
     else (if bytes_eq text (codes "union") then Some o.Union
+    else (if bytes_eq text (codes "difference") then Some o.Difference
     else (if bytes_eq text (codes "forward") then Some o.Forward
     else (if bytes_eq text (codes "backward") then Some o.Backward
     else (if bytes_eq text (codes "compose") then Some o.Compose
@@ -64,10 +65,11 @@ operation_in text = if bytes_eq text (codes "weigh") then Some o.Weigh
     else (if bytes_eq text (codes "prune") then Some o.Prune
     else (if bytes_eq text (codes "trim") then Some o.Trim
     else (if bytes_eq text (codes "through") then Some o.Through
+    else (if bytes_eq text (codes "count") then Some o.Count
     else (if bytes_eq text (codes "runs") then Some o.Runs
     else (if bytes_eq text (codes "invert") then Some o.Invert
     else (if bytes_eq text (codes "domain") then Some o.Domain
-    else (if bytes_eq text (codes "demo") then Some o.Demo else None))))))))))))))))))))
+    else (if bytes_eq text (codes "demo") then Some o.Demo else None))))))))))))))))))))))
 
 -- how many file names follow the operation
 abbrev pub word_count : Operation → ℕ
@@ -77,6 +79,7 @@ word_count o.Normal = 1
 word_count o.KBest = 1
 word_count o.Intersect = 2
 word_count o.Union = 2
+word_count o.Difference = 2
 word_count o.Forward = 2
 word_count o.Backward = 2
 word_count o.Compose = 2
@@ -88,6 +91,7 @@ word_count o.Check = 1
 word_count o.Prune = 1
 word_count o.Trim = 1
 word_count o.Through = 1
+word_count o.Count = 1
 word_count o.Runs = 1
 word_count o.Invert = 1
 word_count o.Domain = 1

@@ -33,6 +33,8 @@ pub enum Operation {
     Intersect,
     /// The canonical grammar of the trees that either of two grammars has, at the lesser cost.
     Union,
+    /// The canonical grammar of the trees of a grammar that have no run in another, at their costs.
+    Difference,
     /// The canonical grammar of the trees into which a transducer turns those of a grammar, at the
     /// least products of both costs.
     Forward,
@@ -61,6 +63,9 @@ pub enum Operation {
     Trim,
     /// The same rules, each at the least cost of a complete run in which it stands.
     Through,
+    /// How many states and rules of a grammar stand in a complete run, and how many runs and trees
+    /// it has.
+    Count,
     /// The transducer that turns each derivation of a grammar, a tree of numbers of rules, into the
     /// tree that it yields.
     Runs,

@@ -33,6 +33,7 @@ fn operation_in(text: &str) -> Option<Operation>
         "kbest" => Some(Operation::KBest),
         "intersect" => Some(Operation::Intersect),
         "union" => Some(Operation::Union),
+        "difference" => Some(Operation::Difference),
         "forward" => Some(Operation::Forward),
         "backward" => Some(Operation::Backward),
         "compose" => Some(Operation::Compose),
@@ -44,6 +45,7 @@ fn operation_in(text: &str) -> Option<Operation>
         "prune" => Some(Operation::Prune),
         "trim" => Some(Operation::Trim),
         "through" => Some(Operation::Through),
+        "count" => Some(Operation::Count),
         "runs" => Some(Operation::Runs),
         "invert" => Some(Operation::Invert),
         "domain" => Some(Operation::Domain),
@@ -146,6 +148,7 @@ fn word_count(operation: Operation) -> usize
         | Operation::Prune
         | Operation::Trim
         | Operation::Through
+        | Operation::Count
         | Operation::Runs
         | Operation::Invert
         | Operation::Domain => 1,
@@ -153,6 +156,7 @@ fn word_count(operation: Operation) -> usize
         Operation::Weigh
         | Operation::Intersect
         | Operation::Union
+        | Operation::Difference
         | Operation::Forward
         | Operation::Backward
         | Operation::Compose

@@ -30,6 +30,7 @@ use Rattle.tib_operations.proofs.OfNormal.{normal_once, normal_there}
 use Rattle.tib_operations.proofs.OfKBest.{kbest_once, kbest_there}
 use Rattle.tib_operations.proofs.OfIntersect.{intersection_once, intersection_there}
 use Rattle.tib_operations.proofs.OfUnion.{union_by_text, union_either, union_once, union_there}
+use Rattle.tib_operations.proofs.OfDifference.{difference_by_text, difference_either, difference_once, difference_there}
 use Rattle.tib_operations.proofs.OfForward.{forward_once, forward_there}
 use Rattle.tib_operations.proofs.OfBackward.{backward_once, backward_there}
 use Rattle.tib_canon.proofs.ComposeByText.{compose_once}
@@ -40,6 +41,7 @@ use Rattle.tib_operations.proofs.OfDemo.{demo_once, demo_either, demo_there}
 use Rattle.tib_operations.proofs.OfPrune.{prune_once, prune_there}
 use Rattle.tib_operations.proofs.OfTrim.{trim_once, trim_there}
 use Rattle.tib_operations.proofs.OfThrough.{through_once, through_there}
+use Rattle.tib_operations.proofs.OfCount.{count_by_text, count_either, count_once, count_there}
 use Rattle.tib_operations.proofs.OfRuns.{runs_once, runs_there}
 use Rattle.tib_operations.proofs.OfInvert.{invert_once, invert_there}
 use Rattle.tib_operations.proofs.OfDomain.{domain_by_text, domain_either, domain_once, domain_there}
@@ -57,6 +59,7 @@ one_demand labels others operations.Normal values more a = nothing_once
 one_demand labels others operations.KBest values more a = nothing_once
 one_demand labels others operations.Intersect values more a = nothing_once
 one_demand labels others operations.Union values more a = nothing_once
+one_demand labels others operations.Difference values more a = nothing_once
 one_demand labels others operations.Forward values more a = one_class labels others 2 linear values.1.0.rules more.1.0.rules a.1.0.rules
 one_demand labels others operations.Backward values more a = one_class labels others 1 linear_nondeleting values.0.rules more.0.rules a.0.rules
 one_demand labels others operations.Compose values more a = one_class labels others 2 plain values.1.0.rules more.1.0.rules a.1.0.rules
@@ -68,6 +71,7 @@ one_demand labels others operations.Check values more a = nothing_once
 one_demand labels others operations.Prune values more a = nothing_once
 one_demand labels others operations.Trim values more a = nothing_once
 one_demand labels others operations.Through values more a = nothing_once
+one_demand labels others operations.Count values more a = nothing_once
 one_demand labels others operations.Runs values more a = nothing_once
 one_demand labels others operations.Invert values more a = one_class labels others 1 inverse_demands values.0.rules more.0.rules a.0.rules
 one_demand labels others operations.Domain values more a = one_class labels others 1 linear values.0.rules more.0.rules a.0.rules
@@ -81,6 +85,7 @@ demand_decided operations.Normal values = nothing_decided
 demand_decided operations.KBest values = nothing_decided
 demand_decided operations.Intersect values = nothing_decided
 demand_decided operations.Union values = nothing_decided
+demand_decided operations.Difference values = nothing_decided
 demand_decided operations.Forward values = class_decided 2 linear values.1.0.rules
 demand_decided operations.Backward values = class_decided 1 linear_nondeleting values.0.rules
 demand_decided operations.Compose values = class_decided 2 plain values.1.0.rules
@@ -92,6 +97,7 @@ demand_decided operations.Check values = nothing_decided
 demand_decided operations.Prune values = nothing_decided
 demand_decided operations.Trim values = nothing_decided
 demand_decided operations.Through values = nothing_decided
+demand_decided operations.Count values = nothing_decided
 demand_decided operations.Runs values = nothing_decided
 demand_decided operations.Invert values = class_decided 1 inverse_demands values.0.rules
 demand_decided operations.Domain values = class_decided 1 linear values.0.rules
@@ -110,6 +116,7 @@ module _ (scale : Scale) (product : ℕ → ℕ → ℕ) (numbers : Numbers) whe
       (both_either (normal_form product numbers.limit values.1.0) pairs (form_either product numbers.limit values.1.0)
       (reached_either numbers.limit (AreTrimmedForms product values.0 values.1.0) (intersecting product)))
   makes_either operations.Union values = union_either product numbers.limit values.0 values.1.0
+  makes_either operations.Difference values = difference_either product numbers.limit values.0 values.1.0
   makes_either operations.Forward values =
       both_either (normal_form product numbers.limit values.0) (reached_set numbers.limit (IsTrimmedForm product values.0) (forwarding product values.1.0)) (form_either product numbers.limit values.0)
       (reached_either numbers.limit (IsTrimmedForm product values.0) (forwarding product values.1.0))
@@ -127,6 +134,7 @@ module _ (scale : Scale) (product : ℕ → ℕ → ℕ) (numbers : Numbers) whe
   makes_either operations.Prune values = form_either product numbers.limit values.0
   makes_either operations.Trim values = nothing_either
   makes_either operations.Through values = nothing_either
+  makes_either operations.Count values = count_either numbers.limit values.0
   makes_either operations.Runs values = nothing_either
   makes_either operations.Invert values = nothing_either
   makes_either operations.Domain values = domain_either numbers.limit values.0
@@ -147,6 +155,7 @@ module _ (scale : Scale) (product : ℕ → ℕ → ℕ) (numbers : Numbers) whe
       ),
     )
     makes_by_text operations.Union values more a w = union_by_text product numbers.limit labels others apart different values.0 values.1.0 more.0 more.1.0 a.0 a.1.0 w
+    makes_by_text operations.Difference values more a w = difference_by_text product numbers.limit labels others apart different values.0 values.1.0 more.0 more.1.0 a.0 a.1.0 w
     makes_by_text operations.Forward values more a w = (
       within_by_text product numbers.limit labels others apart different values.0 more.0 a.0 w.0,
       forward_by_text product numbers.limit labels others apart different values.0 more.0 values.1.0 more.1.0 a.0 a.1.0 w.1,
@@ -167,6 +176,7 @@ module _ (scale : Scale) (product : ℕ → ℕ → ℕ) (numbers : Numbers) whe
     makes_by_text operations.Prune values more a w = within_by_text product numbers.limit labels others apart different values.0 more.0 a.0 w
     makes_by_text operations.Trim values more a w = tt
     makes_by_text operations.Through values more a w = tt
+    makes_by_text operations.Count values more a w = count_by_text numbers.limit labels others apart different values.0 more.0 a.0 w
     makes_by_text operations.Runs values more a w = tt
     makes_by_text operations.Invert values more a w = tt
     makes_by_text operations.Domain values more a w = domain_by_text labels others apart different values.0 more.0 a.0 numbers.limit w
@@ -184,6 +194,7 @@ module _ (scale : Scale) (levelled : Bool) (product : ℕ → ℕ → ℕ) (numb
   large_or_listed operations.KBest values more text a m c = tt
   large_or_listed operations.Intersect values more text a m c = absurd m
   large_or_listed operations.Union values more text a m c = absurd m
+  large_or_listed operations.Difference values more text a m c = absurd m
   large_or_listed operations.Forward values more text a m c = absurd m
   large_or_listed operations.Backward values more text a m c = absurd m
   large_or_listed operations.Compose values more text a m c = absurd m
@@ -195,6 +206,7 @@ module _ (scale : Scale) (levelled : Bool) (product : ℕ → ℕ → ℕ) (numb
   large_or_listed operations.Prune values more text a m c = absurd m
   large_or_listed operations.Trim values more text a m c = absurd m
   large_or_listed operations.Through values more text a m c = absurd m
+  large_or_listed operations.Count values more text a m c = absurd m
   large_or_listed operations.Runs values more text a m c = absurd m
   large_or_listed operations.Invert values more text a m c = absurd m
   large_or_listed operations.Domain values more text a m c = absurd m
@@ -212,6 +224,7 @@ module _ (scale : Scale) (product : ℕ → ℕ → ℕ) (numbers : Numbers) whe
     result_once operations.KBest values more text other a b c = kbest_once scale product numbers.k labels others values.0 more.0 text other apart different a.0 b c
     result_once operations.Intersect values more text other a b c = intersection_once scale product numbers.limit labels others values.0 values.1.0 more.0 more.1.0 text other apart different a.0 a.1.0 b c
     result_once operations.Union values more text other a b c = union_once scale product numbers.limit labels others values.0 values.1.0 more.0 more.1.0 text other apart different a.0 a.1.0 b c
+    result_once operations.Difference values more text other a b c = difference_once scale product numbers.limit labels others values.0 values.1.0 more.0 more.1.0 text other apart different a.0 a.1.0 b c
     result_once operations.Forward values more text other a b c = forward_once scale product numbers.limit labels others values.0 more.0 values.1.0 more.1.0 text other apart different a.0 a.1.0 b c
     result_once operations.Backward values more text other a b c = backward_once scale product numbers.limit labels others values.1.0 more.1.0 values.0 more.0 text other apart different a.1.0 a.0 b c
     result_once operations.Compose values more text other a b c = compose_once scale product numbers.limit labels others values.0 values.1.0 more.0 more.1.0 text other apart different a.0 a.1.0 b c
@@ -223,6 +236,7 @@ module _ (scale : Scale) (product : ℕ → ℕ → ℕ) (numbers : Numbers) whe
     result_once operations.Prune values more text other a b c = prune_once scale product numbers.beam labels others values.0 more.0 text other apart different a.0 b c
     result_once operations.Trim values more text other a b c = trim_once scale product labels others values.0 more.0 text other apart different a.0 b c
     result_once operations.Through values more text other a b c = through_once scale product labels others values.0 more.0 text other apart different a.0 b c
+    result_once operations.Count values more text other a b c = count_once labels others values.0 more.0 text other apart different a.0 b c
     result_once operations.Runs values more text other a b c = runs_once scale product labels others values.0 more.0 text other apart different a.0 b c
     result_once operations.Invert values more text other a b c = invert_once scale product labels others values.0 more.0 text other a.0 b c
     result_once operations.Domain values more text other a b c = domain_once scale product numbers.limit labels others values.0 more.0 text other apart different a.0 b c
@@ -240,6 +254,8 @@ module _ (scale : Scale) (product : ℕ → ℕ → ℕ) (numbers : Numbers) whe
   result_there labels apart operations.Intersect m values s met w small never =
       intersection_there m.laws scale numbers.limit m.low labels apart values.0 values.1.0 s.0.sound s.1.0.sound s.0.printable s.1.0.printable w.1.1 never
   result_there labels apart operations.Union m values s met w small never = union_there m.laws scale numbers.limit m.low labels apart values.0 values.1.0 s.0.sound s.1.0.sound s.0.printable s.1.0.printable w never
+  result_there labels apart operations.Difference m values s met w small never =
+      difference_there m.laws scale numbers.limit m.low labels apart values.0 values.1.0 s.0.sound s.1.0.sound s.0.printable s.1.0.printable w.1.1 never
   result_there labels apart operations.Forward m values s met w small never =
       forward_there m.laws scale numbers.limit m.low labels apart values.0 values.1.0 s.0.sound s.0.printable s.1.0.sound met w.1 never
   result_there labels apart operations.Backward m values s met w small never =
@@ -254,6 +270,7 @@ module _ (scale : Scale) (product : ℕ → ℕ → ℕ) (numbers : Numbers) whe
   result_there labels apart operations.Prune m values s met w small never = prune_there m.laws scale numbers.limit numbers.beam m.low labels apart values.0 s.0.sound s.0.printable w never
   result_there labels apart operations.Trim m values s met w small never = trim_there m.laws scale labels apart values.0 s.0.sound s.0.printable never
   result_there labels apart operations.Through m values s met w small never = through_there m.laws scale labels apart values.0 s.0.sound s.0.printable never
+  result_there labels apart operations.Count needs values s met w small never = count_there values.0 s.0.sound never
   result_there labels apart operations.Runs needs values s met w small never = runs_there scale product labels apart values.0 s.0.has_text s.0.small never
   result_there labels apart operations.Invert m values s met w small never = invert_there m.laws scale labels values.0 s.0.has_text met never
   result_there labels apart operations.Domain m values s met w small never = domain_there m.laws scale numbers.limit m.low labels apart values.0 s.0.sound s.0.moves met w never

@@ -18,6 +18,7 @@ use Rattle.tib_operations.specs.Normal.{HasNormalText}
 use Rattle.tib_operations.specs.KBest.{HasKBestText}
 use Rattle.tib_operations.specs.Intersect.{HasIntersectionText}
 use Rattle.tib_operations.specs.Union.{HasUnionText}
+use Rattle.tib_operations.specs.Difference.{HasDifferenceText}
 use Rattle.tib_operations.specs.Forward.{HasForwardText}
 use Rattle.tib_operations.specs.Backward.{HasBackwardText}
 use Rattle.tib_operations.specs.Compose.{HasComposeText}
@@ -28,6 +29,7 @@ use Rattle.tib_operations.specs.Check.{HasClasses}
 use Rattle.tib_operations.specs.Prune.{HasPruneText}
 use Rattle.tib_operations.specs.Trim.{HasTrimText}
 use Rattle.tib_operations.specs.Through.{HasThroughText}
+use Rattle.tib_operations.specs.Count.{HasCountText}
 use Rattle.tib_operations.specs.Runs.{HasRunsText}
 use Rattle.tib_operations.specs.Invert.{HasInvertText}
 use Rattle.tib_operations.specs.Domain.{HasDomainText}
@@ -42,6 +44,7 @@ IsResultOf operations.Normal scale product numbers labels values text = HasNorma
 IsResultOf operations.KBest scale product numbers labels values text = HasKBestText scale product numbers.k labels values.0 text
 IsResultOf operations.Intersect scale product numbers labels values text = HasIntersectionText scale product numbers.limit labels values.0 values.1.0 text
 IsResultOf operations.Union scale product numbers labels values text = HasUnionText scale product numbers.limit labels values.0 values.1.0 text
+IsResultOf operations.Difference scale product numbers labels values text = HasDifferenceText scale product numbers.limit labels values.0 values.1.0 text
 IsResultOf operations.Forward scale product numbers labels values text = HasForwardText scale product numbers.limit labels values.0 values.1.0 text
 IsResultOf operations.Backward scale product numbers labels values text = HasBackwardText scale product numbers.limit labels values.0 values.1.0 text
 IsResultOf operations.Compose scale product numbers labels values text = HasComposeText scale product numbers.limit labels values.0 values.1.0 text
@@ -53,6 +56,7 @@ IsResultOf operations.Check scale product numbers labels values text = HasClasse
 IsResultOf operations.Prune scale product numbers labels values text = HasPruneText scale product numbers.beam labels values.0 text
 IsResultOf operations.Trim scale product numbers labels values text = HasTrimText scale product labels values.0 text
 IsResultOf operations.Through scale product numbers labels values text = HasThroughText scale product labels values.0 text
+IsResultOf operations.Count scale product numbers labels values text = HasCountText values.0 text
 IsResultOf operations.Runs scale product numbers labels values text = HasRunsText scale product labels values.0 text
 IsResultOf operations.Invert scale product numbers labels values text = HasInvertText scale product labels values.0 text
 IsResultOf operations.Domain scale product numbers labels values text = HasDomainText scale product numbers.limit labels values.0 text
@@ -85,6 +89,7 @@ NeedsOf operations.Normal product numbers = MeetsLaws product numbers.limit
 NeedsOf operations.KBest product numbers = Unit {0}
 NeedsOf operations.Intersect product numbers = MeetsLaws product numbers.limit
 NeedsOf operations.Union product numbers = MeetsLaws product numbers.limit
+NeedsOf operations.Difference product numbers = MeetsLaws product numbers.limit
 NeedsOf operations.Forward product numbers = MeetsLaws product numbers.limit
 NeedsOf operations.Backward product numbers = MeetsLaws product numbers.limit
 NeedsOf operations.Compose product numbers = MeetsLaws product numbers.limit
@@ -96,6 +101,7 @@ NeedsOf operations.Check product numbers = Unit {0}
 NeedsOf operations.Prune product numbers = MeetsLaws product numbers.limit
 NeedsOf operations.Trim product numbers = MeetsLaws product numbers.limit
 NeedsOf operations.Through product numbers = MeetsLaws product numbers.limit
+NeedsOf operations.Count product numbers = Unit {0}
 NeedsOf operations.Runs product numbers = Unit {0}
 NeedsOf operations.Invert product numbers = MeetsLaws product numbers.limit
 NeedsOf operations.Domain product numbers = MeetsLaws product numbers.limit

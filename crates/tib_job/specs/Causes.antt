@@ -19,6 +19,7 @@ use Rattle.tib_operations.specs.Normal.{normal_makes}
 use Rattle.tib_operations.specs.KBest.{kbest_makes, ListsSmall, HasLargeTree}
 use Rattle.tib_operations.specs.Intersect.{intersect_makes}
 use Rattle.tib_operations.specs.Union.{union_makes}
+use Rattle.tib_operations.specs.Difference.{difference_makes}
 use Rattle.tib_operations.specs.Forward.{forward_makes, forward_demands}
 use Rattle.tib_operations.specs.Compose.{compose_makes, compose_demands}
 use Rattle.tib_operations.specs.Image.{image_makes}
@@ -29,6 +30,7 @@ use Rattle.tib_operations.specs.Check.{check_makes}
 use Rattle.tib_operations.specs.Prune.{prune_makes}
 use Rattle.tib_operations.specs.Trim.{trim_makes}
 use Rattle.tib_operations.specs.Through.{through_makes}
+use Rattle.tib_operations.specs.Count.{count_makes}
 use Rattle.tib_operations.specs.Runs.{runs_makes}
 use Rattle.tib_operations.specs.Invert.{invert_makes, invert_demands}
 use Rattle.tib_operations.specs.Domain.{domain_makes, domain_demands}
@@ -82,6 +84,7 @@ makes operations.Normal scale product numbers values = normal_makes product numb
 makes operations.KBest scale product numbers values = kbest_makes product numbers.limit values.0
 makes operations.Intersect scale product numbers values = intersect_makes product numbers.limit values.0 values.1.0
 makes operations.Union scale product numbers values = union_makes product numbers.limit values.0 values.1.0
+makes operations.Difference scale product numbers values = difference_makes product numbers.limit values.0 values.1.0
 makes operations.Forward scale product numbers values = forward_makes product numbers.limit values.0 values.1.0
 makes operations.Backward scale product numbers values = backward_makes product numbers.limit values.0 values.1.0
 makes operations.Compose scale product numbers values = compose_makes product numbers.limit values.0 values.1.0
@@ -93,6 +96,7 @@ makes operations.Check scale product numbers values = check_makes
 makes operations.Prune scale product numbers values = prune_makes product numbers.limit values.0
 makes operations.Trim scale product numbers values = trim_makes
 makes operations.Through scale product numbers values = through_makes
+makes operations.Count scale product numbers values = count_makes numbers.limit values.0
 makes operations.Runs scale product numbers values = runs_makes
 makes operations.Invert scale product numbers values = invert_makes
 makes operations.Domain scale product numbers values = domain_makes numbers.limit values.0
@@ -106,6 +110,7 @@ demanded operations.Normal values = nothing_demanded
 demanded operations.KBest values = nothing_demanded
 demanded operations.Intersect values = nothing_demanded
 demanded operations.Union values = nothing_demanded
+demanded operations.Difference values = nothing_demanded
 demanded operations.Forward values = forward_demands values.1.0
 demanded operations.Backward values = backward_demands values.0
 demanded operations.Compose values = compose_demands values.1.0
@@ -117,6 +122,7 @@ demanded operations.Check values = nothing_demanded
 demanded operations.Prune values = nothing_demanded
 demanded operations.Trim values = nothing_demanded
 demanded operations.Through values = nothing_demanded
+demanded operations.Count values = nothing_demanded
 demanded operations.Runs values = nothing_demanded
 demanded operations.Invert values = invert_demands values.0
 demanded operations.Domain values = domain_demands values.0

@@ -42,6 +42,7 @@ kinds_of operations.Normal = of_grammar ∷ []
 kinds_of operations.KBest = of_grammar ∷ []
 kinds_of operations.Intersect = of_grammar ∷ of_grammar ∷ []
 kinds_of operations.Union = of_grammar ∷ of_grammar ∷ []
+kinds_of operations.Difference = of_grammar ∷ of_support ∷ []
 kinds_of operations.Forward = of_grammar ∷ of_transducer ∷ []
 kinds_of operations.Backward = of_transducer ∷ of_grammar ∷ []
 kinds_of operations.Compose = of_transducer ∷ of_transducer ∷ []
@@ -53,6 +54,7 @@ kinds_of operations.Check = of_transducer ∷ []
 kinds_of operations.Prune = of_grammar ∷ []
 kinds_of operations.Trim = of_grammar ∷ []
 kinds_of operations.Through = of_grammar ∷ []
+kinds_of operations.Count = of_support ∷ []
 kinds_of operations.Runs = of_grammar ∷ []
 kinds_of operations.Invert = of_transducer ∷ []
 kinds_of operations.Domain = of_transducer ∷ []
@@ -80,7 +82,8 @@ of_one_transducer = operations.Check ∷ operations.Invert ∷ operations.Domain
 -- the operations that take two files
 abbrev pub of_two_files : List Operation
 of_two_files =
-    operations.Weigh ∷ operations.Intersect ∷ operations.Union ∷ operations.Forward ∷ operations.Backward ∷ operations.Compose ∷ operations.Image ∷ operations.Parse ∷ operations.Compare ∷ []
+    operations.Weigh ∷ operations.Intersect ∷ operations.Union ∷ operations.Difference ∷ operations.Forward ∷ operations.Backward
+    ∷ operations.Compose ∷ operations.Image ∷ operations.Parse ∷ operations.Compare ∷ []
 
 -- what the n-th file of a job holds, from 1 on
 abbrev pub kind_at : Option Asked → ℕ → Option Kind

@@ -29,6 +29,10 @@ pub enum Values<S> {
     Grammars(Grammar<S>, Grammar<S>),
     /// Two grammars of which only their trees count.
     Supports(Support, Support),
+    /// A grammar, and one of which only its trees count.
+    GrammarAndSupport(Grammar<S>, Support),
+    /// One grammar of which only its trees count.
+    Support(Support),
     /// A grammar and a transducer.
     GrammarAndTransducer(Grammar<S>, Transducer<S>),
     /// A transducer and a grammar.
@@ -85,6 +89,10 @@ pub fn values_of<S: Semiring + Drop, F: Files>(
                 Err(status) => Err(status),
             }
         }
+        Operation::Count => match one_of::<Support, F>(alloc, job, files, labels) {
+            Ok(support) => Ok(Values::Support(support)),
+            Err(status) => Err(status),
+        },
         Operation::Demo => {
             labels.len();
             Ok(Values::Nothing)
@@ -92,6 +100,7 @@ pub fn values_of<S: Semiring + Drop, F: Files>(
         Operation::Weigh
         | Operation::Intersect
         | Operation::Union
+        | Operation::Difference
         | Operation::Forward
         | Operation::Backward
         | Operation::Compose
@@ -128,6 +137,10 @@ fn values_of_both<S: Semiring + Drop, F: Files>(
         },
         Operation::Intersect | Operation::Union => match two_of(alloc, job, files, labels) {
             Ok((first, second)) => Ok(Values::Grammars(first, second)),
+            Err(status) => Err(status),
+        },
+        Operation::Difference => match two_of(alloc, job, files, labels) {
+            Ok((grammar, support)) => Ok(Values::GrammarAndSupport(grammar, support)),
             Err(status) => Err(status),
         },
         Operation::Forward => match two_of(alloc, job, files, labels) {

@@ -14,8 +14,8 @@ use tib_cost::Semiring;
 use tib_expand::Gate;
 use tib_grammar::Grammar;
 use tib_hunted_texts::{
-    comparison_of, composition_of, demo_of, determinization_of, domain_of, forward_image_of,
-    intersection_of, inverse_image_of, outputs_of, parse_of,
+    comparison_of, composition_of, count_of, demo_of, determinization_of, difference_of, domain_of,
+    forward_image_of, intersection_of, inverse_image_of, outputs_of, parse_of,
 };
 use tib_io::GrowingSink;
 use tib_job::Values;
@@ -80,6 +80,11 @@ pub(crate) fn text_of_lent<S: Semiring + Sync + Drop, R: Threads + Sync, G: Gate
         Values::Supports(first, second) => {
             comparison_of::<G>(alloc, &first.grammar, &second.grammar, labels, limit, gate)
         }
+        Values::GrammarAndSupport(grammar, support) => {
+            let support = &support.grammar;
+            grammar_text(difference_of::<S, G>(alloc, grammar, support, labels, limit, gate))
+        }
+        Values::Support(support) => count_of::<G>(alloc, &support.grammar, labels, limit, gate),
         Values::GrammarAndTransducer(grammar, transducer) => {
             match demand::<S>(transducer, 2, true, false) {
                 Ok(()) => grammar_text(forward_image_of::<S, G>(

@@ -16,9 +16,10 @@ use tib_cost::Semiring;
 use tib_expand::Gate;
 use tib_grammar::Grammar;
 use tib_hunted_texts::{
-    comparison_of_together, composition_of_together, demo_of_together, determinization_of_together,
-    domain_of_together, forward_image_of_together, intersection_of_together,
-    inverse_image_of_together, outputs_of_together, parse_of_together,
+    comparison_of_together, composition_of_together, count_of_together, demo_of_together,
+    determinization_of_together, difference_of_together, domain_of_together,
+    forward_image_of_together, intersection_of_together, inverse_image_of_together,
+    outputs_of_together, parse_of_together,
 };
 use tib_io::GrowingSink;
 use tib_job::Values;
@@ -170,6 +171,15 @@ fn text_of_lent_together<S: Semiring + Sync + Drop, R: Threads + Wait + Sync, G:
             labels,
             limit,
         ),
+        Values::GrammarAndSupport(grammar, support) => {
+            let support = &support.grammar;
+            grammar_text(difference_of_together::<S, R, G>(
+                hunters, alloc, grammar, support, labels, limit,
+            ))
+        }
+        Values::Support(support) => {
+            count_of_together::<R, G>(hunters, alloc, &support.grammar, labels, limit)
+        }
         Values::GrammarAndTransducer(grammar, transducer) => {
             match demand::<S>(transducer, 2, true, false) {
                 Ok(()) => grammar_text(forward_image_of_together::<S, R, G>(

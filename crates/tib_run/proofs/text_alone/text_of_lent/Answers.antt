@@ -16,10 +16,20 @@ returns-in-Supports g c =
     outcome_of (asked_for c.args.job.now.operation c.in-Supports.is c.requires.held) c.in-Supports.is
     (compare_outcome _ _ c.comparison_of.result refl c.comparison_of.ensures.within c.comparison_of.ensures.text c.comparison_of.ensures.err)
 
+pub returns-in-GrammarAndSupport : goal.returns-in-GrammarAndSupport
+returns-in-GrammarAndSupport g c =
+    outcome_of (asked_for c.args.job.now.operation c.in-GrammarAndSupport.is c.requires.held) c.in-GrammarAndSupport.is
+    (printed_outcome operations.Difference refl (λ printed. printed.text) c.difference_of.result _ c.grammar_text.ensures tt c.difference_of.ensures.within c.difference_of.ensures.text c.difference_of.ensures.err)
+
+pub returns-in-Support : goal.returns-in-Support
+returns-in-Support g c =
+    outcome_of (asked_for c.args.job.now.operation c.in-Support.is c.requires.held) c.in-Support.is
+    (made_outcome operations.Count refl c.count_of.result tt c.count_of.ensures.within c.count_of.ensures.text c.count_of.ensures.err)
+
 pub returns-in-Ok : goal.returns-in-Ok
 returns-in-Ok g c =
     outcome_of (asked_for c.args.job.now.operation c.in-GrammarAndTransducer.is c.requires.held) c.in-GrammarAndTransducer.is
-    (printed_outcome operations.Forward refl (λ printed. printed.text) c.forward_image_of.result _ c.grammar_text.ensures c.in-Ok.ensures.met c.forward_image_of.ensures.within c.forward_image_of.ensures.text c.forward_image_of.ensures.err)
+    (printed_outcome operations.Forward refl (λ printed. printed.text) c.forward_image_of.result _ c.grammar_text-in-Ok.ensures c.in-Ok.ensures.met c.forward_image_of.ensures.within c.forward_image_of.ensures.text c.forward_image_of.ensures.err)
 
 pub returns-in-Err : goal.returns-in-Err
 returns-in-Err g c =

@@ -1,7 +1,7 @@
 use Rattle.std.proofs.Common.{ap, refl, sym}
 use Rattle.std.specs.Prelude.{Some}
 use Rattle.tib_command.specs.declared.job.Operation.TheVariants as operations
-use Rattle.tib_job.proofs.Outcomes.{outcome_of, class_outcome, printed_outcome, demo_outcome, compare_outcome, parse_outcome}
+use Rattle.tib_job.proofs.Outcomes.{outcome_of, class_outcome, made_outcome, printed_outcome, demo_outcome, compare_outcome, parse_outcome}
 use Rattle.tib_job.proofs.ReadValues.{asked_for}
 use Rattle.tib_run.proofs.text_together.text_of_lent_together.Goals as goal
 
@@ -10,10 +10,20 @@ returns-in-Supports g c =
     outcome_of (asked_for c.args.job.now.operation c.in-Supports.is c.requires.held) c.in-Supports.is
     (compare_outcome _ _ c.comparison_of_together.result refl c.comparison_of_together.ensures.within c.comparison_of_together.ensures.text c.comparison_of_together.ensures.err)
 
+pub returns-in-GrammarAndSupport : goal.returns-in-GrammarAndSupport
+returns-in-GrammarAndSupport g c =
+    outcome_of (asked_for c.args.job.now.operation c.in-GrammarAndSupport.is c.requires.held) c.in-GrammarAndSupport.is
+    (printed_outcome operations.Difference refl (λ printed. printed.text) c.difference_of_together.result _ c.grammar_text.ensures tt c.difference_of_together.ensures.within c.difference_of_together.ensures.text c.difference_of_together.ensures.err)
+
+pub returns-in-Support : goal.returns-in-Support
+returns-in-Support g c =
+    outcome_of (asked_for c.args.job.now.operation c.in-Support.is c.requires.held) c.in-Support.is
+    (made_outcome operations.Count refl c.count_of_together.result tt c.count_of_together.ensures.within c.count_of_together.ensures.text c.count_of_together.ensures.err)
+
 pub returns-in-Ok : goal.returns-in-Ok
 returns-in-Ok g c =
     outcome_of (asked_for c.args.job.now.operation c.in-GrammarAndTransducer.is c.requires.held) c.in-GrammarAndTransducer.is
-    (printed_outcome operations.Forward refl (λ printed. printed.text) c.forward_image_of_together.result _ c.grammar_text.ensures c.in-Ok.ensures.met c.forward_image_of_together.ensures.within c.forward_image_of_together.ensures.text c.forward_image_of_together.ensures.err)
+    (printed_outcome operations.Forward refl (λ printed. printed.text) c.forward_image_of_together.result _ c.grammar_text-in-Ok.ensures c.in-Ok.ensures.met c.forward_image_of_together.ensures.within c.forward_image_of_together.ensures.text c.forward_image_of_together.ensures.err)
 
 pub returns-in-Err : goal.returns-in-Err
 returns-in-Err g c =
