@@ -7,9 +7,11 @@ use tib_operations::Status;
 mod applied_rows;
 mod compared_rows;
 mod composed_rows;
+mod count_rows;
 mod demo_rows;
 mod derived_rows;
 mod determinized_rows;
+mod difference_rows;
 mod domain_rows;
 mod gates;
 mod hunted_rows;
@@ -31,9 +33,11 @@ mod watched;
 use applied_rows::{BACKWARD, FORWARD};
 use compared_rows::COMPARED;
 use composed_rows::COMPOSED;
+use count_rows::COUNTED;
 use demo_rows::{DEMONSTRATED, SEVEN};
 use derived_rows::DERIVED;
 use determinized_rows::DETERMINIZED;
+use difference_rows::DIFFERENCES;
 use domain_rows::DOMAINS;
 use image_rows::IMAGED;
 use inverted_rows::INVERTED;
@@ -464,6 +468,11 @@ fn united() -> &'static [Row] {
     &UNITED
 }
 
+// The rows on `difference`.
+fn differences() -> &'static [Row] {
+    &DIFFERENCES
+}
+
 // The rows on `trim`.
 fn trimmed() -> &'static [Row] {
     &TRIMMED
@@ -472,6 +481,11 @@ fn trimmed() -> &'static [Row] {
 // The rows on `through`.
 fn through() -> &'static [Row] {
     &THROUGH
+}
+
+// The rows on `count`.
+fn counted() -> &'static [Row] {
+    &COUNTED
 }
 
 // The rows on `runs`.
@@ -550,6 +564,12 @@ fn the_mode_widest_and_determinizations_are_as_worked_out(rt: HostRuntime) {
 fn unions_and_domains_are_as_worked_out(rt: HostRuntime) {
     assert_eq!(rt; first_wrong(&rt, rt.alloc(), united()), None);
     assert_eq!(rt; first_wrong(&rt, rt.alloc(), domains()), None);
+}
+
+#[test]
+fn differences_and_counts_are_as_worked_out(rt: HostRuntime) {
+    assert_eq!(rt; first_wrong(&rt, rt.alloc(), differences()), None);
+    assert_eq!(rt; first_wrong(&rt, rt.alloc(), counted()), None);
 }
 
 #[test]

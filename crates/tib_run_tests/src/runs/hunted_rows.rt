@@ -16,7 +16,7 @@ const LEAVES_MADE: &str = "q\nq.A(x0: x1:) -> S(r.x0 s.x1)\nr.a -> a\ns.b -> b\n
 
 const LEAVES_SPELLED: &str = "q\nq.S(x0: x1:) -> r.x0 s.x1\nr.a -> u\ns.b -> v\n";
 
-pub static HUNTED: [Hunt; 10] = [
+pub static HUNTED: [Hunt; 12] = [
     (
         (
             &["intersect", "G", "T"],
@@ -130,6 +130,32 @@ pub static HUNTED: [Hunt; 10] = [
             "",
             Status::Done,
             "q0\nq0 -> q1 # 0\nq1 -> S(q2 q3) # 1\nq2 -> a # 2\nq3 -> b # 3\n",
+            "",
+        ),
+        3,
+        3,
+        0,
+    ),
+    (
+        (
+            &["difference", "G", "T"],
+            LEAVES,
+            OTHER_LEAVES,
+            Status::Done,
+            "q0\nq0 -> q1 # 0\nq1 -> S(q2 q3) # 1\nq2 -> a # 2\nq3 -> b # 3\n",
+            "",
+        ),
+        3,
+        3,
+        0,
+    ),
+    (
+        (
+            &["count", "G"],
+            LEAVES,
+            "",
+            Status::Done,
+            "states 3\nrules 3\nruns 1\ntrees 1\n",
             "",
         ),
         3,

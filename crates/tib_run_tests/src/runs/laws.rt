@@ -199,3 +199,205 @@ fn trees_are_read_where_they_have_outputs(rt: HostRuntime) -> Result<(), Fail> {
     }
     Ok(())
 }
+
+// What a run of an operation in Boolean writes over two files.
+fn boolean_of_both<R: Threads + Wait + Sync>(
+    rt: &R,
+    alloc: Global,
+    operation: &str,
+    first: &[u8],
+    second: &[u8],
+) -> Result<Vec<u8>, Fail> {
+    text_of(
+        rt,
+        alloc,
+        &["-m", "boolean", operation, "G", "T"],
+        first,
+        second,
+    )
+}
+
+// Whether the trees of a grammar that have a run in another, and those that have none, are together
+// those of the grammar, and no tree is of both kinds. The other has no weights, so in minplus the
+// costs are those of the grammar too.
+fn parts_hold<R: Threads + Wait + Sync>(
+    rt: &R,
+    alloc: Global,
+    one: &[u8],
+    other: &[u8],
+) -> Result<bool, Fail> {
+    let without = boolean_of_both(rt, alloc, "difference", one, other)?;
+    let with = boolean_of_both(rt, alloc, "intersect", one, other)?;
+    let both = boolean_of_both(rt, alloc, "union", &without, &with)?;
+    let compared = made_of_both(rt, alloc, "compare", &both, one)?;
+    let shared = boolean_of_both(rt, alloc, "intersect", &without, other)?;
+    let dear = made_of_both(rt, alloc, "difference", one, other)?;
+    let rest = made_of_both(rt, alloc, "intersect", one, other)?;
+    let again = made_of_both(rt, alloc, "union", &dear, &rest)?;
+    Ok(
+        compared.as_slice() == "same\n".as_bytes()
+            && shared.as_slice() == "q0\n".as_bytes()
+            && have_one_series(rt, alloc, &again, one, TREES)?,
+    )
+}
+
+// The grammar of above without weights.
+const FREE: &str = "q\nq -> g(q r)\nq -> f(q)\nq -> a\nr -> b\nr -> q\n";
+
+// Grammars without weights; the last has no tree.
+static SUPPORTS: [&str; 4] = [
+    "r\nr -> g(r r)\nr -> f(r)\nr -> a\n",
+    "r\nr -> g(r r)\nr -> f(r)\nr -> b\n",
+    "r\nr -> r\nr -> g(r s)\nr -> g(s r)\ns -> b\nr -> a\n",
+    "r\nr -> f(r)\n",
+];
+
+#[test]
+fn differences_and_intersections_part_a_grammar(rt: HostRuntime) -> Result<(), Fail> {
+    for support in &SUPPORTS {
+        assert!(rt; parts_hold(&rt, rt.alloc(), ONE.as_bytes(), support.as_bytes())?);
+        assert!(rt; parts_hold(&rt, rt.alloc(), support.as_bytes(), FREE.as_bytes())?);
+    }
+    Ok(())
+}
+
+// Whether nothing is left of a grammar less another.
+fn has_no_difference<R: Threads + Wait + Sync>(
+    rt: &R,
+    alloc: Global,
+    one: &[u8],
+    other: &[u8],
+) -> Result<bool, Fail> {
+    let left = boolean_of_both(rt, alloc, "difference", one, other)?;
+    Ok(left.as_slice() == "q0\n".as_bytes())
+}
+
+// Whether two grammars have the same trees exactly where nothing is left of either less the other.
+fn is_same_without_differences<R: Threads + Wait + Sync>(
+    rt: &R,
+    alloc: Global,
+    one: &[u8],
+    other: &[u8],
+) -> Result<bool, Fail> {
+    let compared = made_of_both(rt, alloc, "compare", one, other)?;
+    let is_same = compared.as_slice() == "same\n".as_bytes();
+    let nothing_left = has_no_difference(rt, alloc, one, other)?
+        && has_no_difference(rt, alloc, other, one)?;
+    Ok(is_same == nothing_left)
+}
+
+// The second has the trees of the first; the third has them all, and more.
+static COMPARED: [&str; 3] = [
+    "q\nq -> f(q)\nq -> a\n",
+    "q\nq -> f(p)\nq -> a\np -> f(q)\np -> a\n",
+    "q\nq -> f(q)\nq -> a\nq -> b\n",
+];
+
+#[test]
+fn grammars_are_the_same_where_nothing_is_left(rt: HostRuntime) -> Result<(), Fail> {
+    for one in &COMPARED {
+        assert!(rt; has_no_difference(&rt, rt.alloc(), one.as_bytes(), one.as_bytes())?);
+        for other in &COMPARED {
+            assert!(rt;
+                is_same_without_differences(&rt, rt.alloc(), one.as_bytes(), other.as_bytes())?
+            );
+        }
+    }
+    Ok(())
+}
+
+// How many lines a text has.
+fn lines_of(text: &[u8]) -> usize {
+    text.iter().filter(|byte| **byte == b'\n').count()
+}
+
+// A grammar; the first two lines of its counts; how many rules of it are in complete runs; the last
+// two lines of the counts of its deterministic form; and how many trees it has.
+type Counted = (&'static str, &'static str, usize, &'static str, usize);
+
+static COUNTED: [Counted; 6] = [
+    (
+        "q\nq -> f(p) # 1\nq -> f(r) # 3\np -> a # 2\nr -> a # 1\n",
+        "states 3\nrules 4\n",
+        4,
+        "runs 1\ntrees 1\n",
+        1,
+    ),
+    (
+        "q\nq -> f(p p)\nq -> f(p r)\np -> a\np -> b\nr -> a\nu -> c\nq -> v\nv -> f(v)\n",
+        "states 3\nrules 5\n",
+        5,
+        "runs 4\ntrees 4\n",
+        4,
+    ),
+    (
+        "q\nq -> r # 0\nr -> q # 0\nr -> a # 4\n",
+        "states 2\nrules 3\n",
+        3,
+        "runs 1\ntrees 1\n",
+        1,
+    ),
+    (
+        "q\nq -> g(p g(p a)) # 7\np -> f(r)\np -> r\nr -> a\nr -> b\nr -> a # 1\n",
+        "states 3\nrules 6\n",
+        6,
+        "runs 16\ntrees 16\n",
+        16,
+    ),
+    (
+        "q\nq -> f(p) # 1000000000000000\np -> a\np -> b # 1\n",
+        "states 2\nrules 3\n",
+        3,
+        "runs 2\ntrees 2\n",
+        2,
+    ),
+    (
+        "q\nq -> f(q)\np -> a\n",
+        "states 1\nrules 0\n",
+        0,
+        "runs 0\ntrees 0\n",
+        0,
+    ),
+];
+
+// Whether the first two counts of a grammar are those of what `trim` keeps of it in Boolean, and it
+// has the counts of the file.
+fn counts_rules_of_trim<R: Threads + Wait + Sync>(
+    rt: &R,
+    alloc: Global,
+    row: &Counted,
+) -> Result<bool, Fail> {
+    let counts = made_of(rt, alloc, "count", row.0.as_bytes())?;
+    let words = ["-m", "boolean", "trim", "G"];
+    let trimmed = text_of(rt, alloc, &words, row.0.as_bytes(), &[])?;
+    let again = made_of(rt, alloc, "count", &trimmed)?;
+    Ok(
+        counts.as_slice() == again.as_slice()
+            && counts.as_slice().starts_with(row.1.as_bytes())
+            && lines_of(&trimmed) == row.2.saturating_add(1),
+    )
+}
+
+// Whether the deterministic form of a grammar has as many runs as trees, and `kbest` lists as many
+// trees in Boolean.
+fn counts_trees<R: Threads + Wait + Sync>(
+    rt: &R,
+    alloc: Global,
+    row: &Counted,
+) -> Result<bool, Fail> {
+    let words = ["-m", "boolean", "determinize", "G"];
+    let deterministic = text_of(rt, alloc, &words, row.0.as_bytes(), &[])?;
+    let counts = made_of(rt, alloc, "count", &deterministic)?;
+    let words = ["-m", "boolean", "-k", "100", "kbest", "G"];
+    let listed = text_of(rt, alloc, &words, row.0.as_bytes(), &[])?;
+    Ok(counts.as_slice().ends_with(row.3.as_bytes()) && lines_of(&listed) == row.4)
+}
+
+#[test]
+fn counts_are_those_of_what_is_listed(rt: HostRuntime) -> Result<(), Fail> {
+    for row in &COUNTED {
+        assert!(rt; counts_rules_of_trim(&rt, rt.alloc(), row)?);
+        assert!(rt; counts_trees(&rt, rt.alloc(), row)?);
+    }
+    Ok(())
+}
