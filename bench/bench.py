@@ -381,6 +381,18 @@ def reading_transducer(rules, states=20000):
     return lines
 
 
+def as_automata(first, second):
+    """Writes two grammars of words as sorted automata of OpenFst, the second without weights and deterministic, as
+    `fstdifference` wants it, and returns their paths."""
+    symbols = write("letters.symbols", ["%s %d" % it for it in (("<eps>", 0), *zip("abcde", range(1, 6)))])
+    paths = []
+    for grammar, more in ((first, ""), (second, "fstmap --map_type=rmweight | fstdeterminize |")):
+        paths.append(grammar + ".fst")
+        words = (sys.executable, os.path.join(os.path.dirname(__file__), "..", "tools", "to-fst"), grammar, symbols, paths[-1])
+        subprocess.run(["sh", "-c", "\"$0\" \"$1\" --acceptor --end e \"$2\" | fstcompile --acceptor --isymbols=\"$3\" | %s fstarcsort >\"$4\"" % more, *words], check=True)
+    return paths
+
+
 # ---- the table
 
 def row(name, measured, amount, unit):
@@ -405,6 +417,7 @@ def families():
         ("prune of a trie", lambda n: ("prune", write("trie%d.grammar" % n, trie(n * 31250)))),
         ("normal of a trie", lambda n: ("normal", write("trie%d.grammar" % n, trie(n * 31250)))),
         ("through of a trie", lambda n: ("through", write("trie%d.grammar" % n, trie(n * 31250)))),
+        ("count of a trie", lambda n: ("count", write("trie%d.grammar" % n, trie(n * 31250)))),
         ("union of two grammars", lambda n: ("union", *[write("grow%d-%d.grammar" % (n, states), flat_grammar(n * (MEGABYTE - 4096), states)) for states in (2000, 1999)])),
         ("domain", lambda n: ("domain", write("reading%d.transducer" % n, reading_transducer(n * 12500, n * 2500)))),
     ):
@@ -478,6 +491,8 @@ def main(program):
     row("trim of that trie", measure(program, "trim", grammar), size, "MB/s")
     row("through of that trie", measure(program, "through", grammar), size, "MB/s")
     row("runs of that trie", measure(program, "runs", grammar), size, "MB/s")
+    row("count of that trie", measure(program, "count", grammar), size, "MB/s")
+    row("  determinize of it, in boolean", measure(program, "-m", "boolean", "determinize", grammar), size, "MB/s")
     for k in (1, 100, 10000):
         row("kbest of that trie, k = %d" % k, measure(program, "-k", str(k), "kbest", grammar), 0.25, "million rules/s")
     random.seed(29)
@@ -487,6 +502,9 @@ def main(program):
     lines = packed_forest(30)
     for k in (1, 100, 10000):
         row("kbest of a forest over 30 words, %d rules, k = %d" % (len(lines) - 1, k), measure(program, "-k", str(k), "kbest", write("packed.grammar", lines)), (len(lines) - 1) / 1e6, "million rules/s")
+    packed = path("packed.grammar")
+    row("count of that forest", measure(program, "count", packed), (len(lines) - 1) / 1e6, "million rules/s")
+    row("  determinize of it, in boolean", measure(program, "-m", "boolean", "determinize", packed), (len(lines) - 1) / 1e6, "million rules/s")
     row("inside of 18,000 rules over 700 states", measure(program, "inside", path("weigh.grammar")), 18000 / 1e6, "million rules/s")
     row("normal of 18,000 rules over 700 states", measure(program, "normal", path("weigh.grammar")), 18000 / 1e6, "million rules/s")
 
@@ -499,6 +517,17 @@ def main(program):
     pairs = subprocess.run([program, "intersect", *two], capture_output=True, check=False).stdout.splitlines()
     states = len(set(line.split(b" ", 1)[0] for line in pairs))
     row("intersect two of 800 states: %d states, %d rules" % (states, len(pairs) - 1), measure(program, "intersect", *two), (len(pairs) - 1) / 1e6, "million rules/s")
+
+    # (a difference reads words from their end, where one state in eight begins: of 800 states it has too many sets)
+    few = [write("monadic200-%d.grammar" % seed, monadic(200, seed)) for seed in (11, 12)]
+    for words in ("difference", "intersect"):
+        made = subprocess.run([program, words, *few], capture_output=True, check=False).stdout.splitlines()
+        row("%s of two of 200 states: %d rules" % (words, len(made) - 1), measure(program, words, *few), (len(made) - 1) / 1e6, "million rules/s")
+    if shutil.which("fstdifference"):
+        for states, pair in ((200, few), (800, two)):
+            row("  fstdifference of two of %d states, the second deterministic" % states, measure("fstdifference", *as_automata(*pair)), states / 1e6, "million states/s")
+    measured = measure(program, "difference", *two)
+    row("difference of two of 800 states (status %d)" % measured[2], measured, 20, "million parts/s")
 
     for name, made in (("in 200,000 rounds of one", long_words(200000)), ("in 18 rounds", wide_words(200000))):
         grammar = write("words.grammar", made)

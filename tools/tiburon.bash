@@ -2,7 +2,7 @@
 # bash-completion looks.
 _tiburon() {
     local current=${COMP_WORDS[COMP_CWORD]} before=${COMP_WORDS[COMP_CWORD - 1]} operation='' word place skip=0 only_words=0
-    local operations='weigh inside normal kbest intersect union trim through runs check invert domain forward backward compose image parse compare determinize prune demo'
+    local operations='weigh inside normal kbest intersect union difference trim through count runs check invert domain forward backward compose image parse compare determinize prune demo'
     COMPREPLY=()
     # The words before this one: which operation they name, and whether `--` has ended the options.
     for ((place = 1; place < COMP_CWORD; place++)); do
