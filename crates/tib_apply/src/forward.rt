@@ -26,7 +26,7 @@ use std::alloc::{AllocError, Global};
 use tib_cost::{Cost, Semiring};
 use tib_expand::ExpandError;
 use tib_grammar::Item;
-use tib_match::{Match, Within, few_matches, partial_matches, search_matches};
+use tib_match::{FEW_PARTIAL_MATCHES, Match, Within, few_matches, matches_beyond_few};
 use tib_normal::Normal;
 use tib_transducer::{ClassError, StateIndex, Transducer, TransducerRule, first_outside};
 
@@ -169,7 +169,7 @@ impl<'a, S: Semiring> Forward<'a, S> {
     }
 
     /// The matches of the left-hand side of the rule at a position that give an edge, among others;
-    /// `More` where these are more than `most`. They are searched for.
+    /// `More` where these are more than `most`. It is for sides on which `few_matches` gave up.
     fn search(
         &self,
         alloc: Global,
@@ -197,7 +197,7 @@ impl<'a, S: Semiring> Forward<'a, S> {
         else {
             return Err(ExpandError::OutOfMemory);
         };
-        let Ok(answer) = search_matches(
+        let Ok(answer) = matches_beyond_few(
             alloc,
             self.grammar,
             key.first(),
@@ -215,8 +215,8 @@ impl<'a, S: Semiring> Forward<'a, S> {
     }
 
     /// The matches of the left-hand side of the rule at a position that give an edge, among others;
-    /// `More` where these are more than `most`. Cost: that of `few_matches` with 2 x `most` + 1000
-    /// partial matches, and where it gives up that of `search_matches`.
+    /// `More` where these are more than `most`. Cost: that of `few_matches` with
+    /// `FEW_PARTIAL_MATCHES`, and where it gives up that of `matches_beyond_few`.
     fn matches_of(
         &self,
         alloc: Global,
@@ -234,8 +234,8 @@ impl<'a, S: Semiring> Forward<'a, S> {
             rule.left key.0 (IsAffordable S.product self.now.runs rule) most }
     {
         let rule = &self.transducer.rule_list()[position as usize];
-        let partial = partial_matches(most);
-        let Ok(answer) = few_matches(alloc, self.grammar, key.first(), &rule.left, partial) else {
+        let few = FEW_PARTIAL_MATCHES;
+        let Ok(answer) = few_matches(alloc, self.grammar, key.first(), &rule.left, few) else {
             return Err(ExpandError::OutOfMemory);
         };
         match answer {

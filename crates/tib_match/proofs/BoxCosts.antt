@@ -84,7 +84,7 @@ spanned_in r f q h k =
     rw (a, b) refl
 
 -- what has a cost there is in the span
-spanned_some : (r : Span) (f : ℕ → Option ℕ) (q a : ℕ) → spanned r f q ≡ Some a → (r.low ≤ q) × (q < r.high) × (f q ≡ Some a)
+pub spanned_some : (r : Span) (f : ℕ → Option ℕ) (q a : ℕ) → spanned r f q ≡ Some a → (r.low ≤ q) × (q < r.high) × (f q ≡ Some a)
 spanned_some r f q a e = by (nat_le r.low q) (nat_le (q + 1) r.high) refl refl e
   where
     by : (b d : Bool) → nat_le r.low q ≡ b → nat_le (q + 1) r.high ≡ d → (if b then (if d then f q else None) else None) ≡ Some a → (r.low ≤ q) × (q < r.high) × (f q ≡ Some a)

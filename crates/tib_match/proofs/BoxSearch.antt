@@ -51,11 +51,11 @@ own_box : (ss : List ℕ) → Inside (singles ss) ss
 own_box [] = tt
 own_box (s ∷ ss) = (omega arith, omega arith, own_box ss)
 
-own_singles : (ss : List ℕ) → AreSingles (singles ss) ss
+pub own_singles : (ss : List ℕ) → AreSingles (singles ss) ss
 own_singles [] = tt
 own_singles (s ∷ ss) = (refl, refl, own_singles ss)
 
-less : (a b : ℕ) → a < b → nat_cmp a b ≡ Less
+pub less : (a b : ℕ) → a < b → nat_cmp a b ≡ Less
 less a b h = by (nat_cmp a b) (ranked a b (nat_cmp a b) refl)
   where
     by : (o : Ordering) → MatchOrdering o (a < b) (a ≡ b) (b < a) → o ≡ Less
@@ -63,7 +63,7 @@ less a b h = by (nat_cmp a b) (ranked a b (nat_cmp a b) refl)
     by Equal r = absurd (omega arith)
     by Greater r = absurd (omega arith)
 
-equal : (a b : ℕ) → a ≡ b → nat_cmp a b ≡ Equal
+pub equal : (a b : ℕ) → a ≡ b → nat_cmp a b ≡ Equal
 equal a b h = by (nat_cmp a b) (ranked a b (nat_cmp a b) refl)
   where
     by : (o : Ordering) → MatchOrdering o (a < b) (a ≡ b) (b < a) → o ≡ Equal

@@ -13,7 +13,7 @@ returns-in-Some g c =
 
 pub returns : goal.returns
 returns g c =
-    IfOk-weaker c.search_matches.result _ _
+    IfOk-weaker c.matches_beyond_few.result _ _
     (λ answer are. free_where g.met.S.Semiring.laws c.args.normal.now.rules c.grammar.ensures.normal.normal c.args.side.now c.items.ensures.leaves c.args.state c.args.above c.items.result.now (sym c.items.ensures.items) c.args.most answer
     (subst (λ hs. AnswersWhere g.S.Semiring.product c.args.normal.now.rules c.args.side.now c.args.state (IsWithin g.S.Semiring.product c.args.above hs) c.args.most answer) (c.deref.ensures.value ∙ c.in_ok-costs.ensures) are))
-    c.search_matches.ensures
+    c.matches_beyond_few.ensures

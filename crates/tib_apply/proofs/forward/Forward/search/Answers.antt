@@ -36,7 +36,7 @@ returns-in-All-clause-found g c =
     c.states.result c.in-Ok.costs.items c.deref-2.result.now c.first.result c.args.key.0 c.args.most (All c.in-All.all)
     (c.states.ensures ∙ ap (λ (n : GrammarOf). length n.names) c.grammar-grammar.ensures.same)
     c.in-Ok.ensures c.deref-2.ensures.value c.first.ensures c.requires.first
-    (subst (AnswersWhere product grammar.rules c.index-rule_list-position.result.left c.first.result (IsWithin product c.index-rule_list-position.result.cost c.deref-2.result.now) c.args.most) c.in-All.is c.in-Ok-search_matches.ensures)
+    (subst (AnswersWhere product grammar.rules c.index-rule_list-position.result.left c.first.result (IsWithin product c.index-rule_list-position.result.cost c.deref-2.result.now) c.args.most) c.in-All.is c.in-Ok-matches_beyond_few.ensures)
 
 pub returns-clause-more : goal.returns-clause-more
 returns-clause-more g c = λ e.
@@ -52,4 +52,4 @@ returns-clause-more g c = λ e.
     c.states.result c.in-Ok.costs.items c.deref-2.result.now c.first.result c.args.key.0 c.args.most More
     (c.states.ensures ∙ ap (λ (n : GrammarOf). length n.names) c.grammar-grammar.ensures.same)
     c.in-Ok.ensures c.deref-2.ensures.value c.first.ensures c.requires.first
-    (subst (AnswersWhere product grammar.rules c.index-rule_list-position.result.left c.first.result (IsWithin product c.index-rule_list-position.result.cost c.deref-2.result.now) c.args.most) c.in-More.is c.in-Ok-search_matches.ensures)
+    (subst (AnswersWhere product grammar.rules c.index-rule_list-position.result.left c.first.result (IsWithin product c.index-rule_list-position.result.cost c.deref-2.result.now) c.args.most) c.in-More.is c.in-Ok-matches_beyond_few.ensures)
