@@ -29,7 +29,8 @@ module _
   abbrev ups : List ℕ → List ℕ
   ups ks = map suc ks
 
-  forth : (runs : Trees ℕ) (ks : List ℕ) → AreRuns new ks runs → IsCost product (started order new) (ups ks) (yields new runs) (cost product new runs)
+  -- a run to positions is one to the next numbers
+  pub forth : (runs : Trees ℕ) (ks : List ℕ) → AreRuns new ks runs → IsCost product (started order new) (ups ks) (yields new runs) (cost product new runs)
   forth none [] a = record { runs = none; are_runs = tt; yielded = refl; costs = refl }
   forth none (k ∷ ks) a = absurd a
   forth (tree j runs rest) [] a = absurd a

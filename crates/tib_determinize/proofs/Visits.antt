@@ -50,6 +50,10 @@ module _
     pub fits : l.next < 2 ^ 32
     fits = let w = level.fits in omega (arith, next, w)
 
+    -- the states of the vector at the next position ascend
+    pub rises_next : (v : VectorOf) → v ≡ vector_at order l.next → Rises v
+    rises_next v at = subst (λ (w : VectorOf). Rises w) (sym at) (each_has (λ v. Rises v) order (vector_at order l.next) rise (has_at order l.next [] in_order))
+
     -- the rules that are alive at the next position
     pub alive_next : (v : VectorOf) (alive : List Alive) → v ≡ vector_at order l.next → alive ≡ narrowed product rules l.place v l.alive.items →
         AreLeft product rules order f k j (vector_at order n) l.place (l.next ∷ l.behind.items) alive

@@ -7,6 +7,7 @@ ghost use Rattle.std.proofs.Common.{get_or};
 ghost use Rattle.tib_determinize.specs.Alive.{HasPlace, HasState, begun, cost_with, costs_of, narrowed, states_of, weight_with};
 ghost use Rattle.tib_determinize.specs.Lookup.{residual_in};
 ghost use Rattle.tib_determinize.specs.Occurrences.{BeginAll, IsBegun, fresh};
+ghost use Rattle.tib_determinize.specs.Vectors.{Rises};
 
 use crate::occurrences::Occurrence;
 use crate::vector::Vector;
@@ -50,9 +51,10 @@ pub(crate) fn state_at(rules: &[Rule<u32>], place: usize, rule: u32) -> u32
 fn residual_at(rules: &[Rule<u32>], place: usize, vector: &Vector, rule: u32) -> Option<Cost>
     requires normal { AreNormal rules.now }
     requires place { HasState rules.now place rule }
+    requires rise { Rises vector.now }
     ensures { result ≡ residual_in (get_or (states_of rules.now rule) place 0) vector.now }
 {
-    vector.residual(state_at(rules, place, rule))
+    vector.residual_ascending(state_at(rules, place, rule))
 }
 
 // Whether a place is this one, of a rule that has a label and a rank.
@@ -108,6 +110,7 @@ fn weight<S: Semiring>(
 ) -> Option<Cost>
     requires normal { AreNormal rules.now }
     requires place { HasPlace rules.now place alive.now }
+    requires rise { Rises vector.now }
     ensures { result ≡ weight_with S.product rules.now place vector.now alive.now }
 {
     match residual_at(rules, place, vector, alive.rule) {
@@ -126,6 +129,7 @@ pub(crate) fn narrow<S: Semiring>(
 ) -> Result<Vec<Alive>, AllocError>
     requires normal { AreNormal rules.now }
     requires place { Each (HasPlace rules.now place) alive.now }
+    requires rise { Rises vector.now }
     ensures { IfOk result (λ left. left.items ≡ narrowed S.product rules.now place vector.now
         alive.now) }
 {

@@ -62,7 +62,7 @@ impl<'a, S: Semiring> Expand for Residuals<'a, S> {
         rule: &VectorRule,
         ends: &[u32],
     ) -> Result<Rule<u32>, AllocError> {
-        let right = Side::over(alloc, rule.label, &rule.positions)?;
+        let right = Side::over(alloc, rule.label, rule.positions.as_slice())?;
         Ok(Rule {
             left: ends[rule.end as usize],
             right,

@@ -15,6 +15,7 @@ mod origin;
 mod residuals;
 mod settling;
 mod shapes;
+mod started;
 mod vector;
 mod vector_rule;
 mod walk;
@@ -23,5 +24,6 @@ mod wide;
 
 pub use origin::Origin;
 pub use residuals::Residuals;
+pub use started::{final_positions, started_rules};
 pub use vector::Vector;
 pub use vector_rule::VectorRule;

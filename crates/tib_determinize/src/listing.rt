@@ -1,24 +1,16 @@
 //! The edges of a position, listed one after another within a budget of parts.
 
-ghost use Rattle.std.specs.Prelude.{◌≡◌, ◌+◌, ◌<◌, ◌≤◌, ◌^◌, length, IfOk, OnOk, Err};
+ghost use Rattle.std.specs.Prelude.{◌≡◌, ◌+◌, ◌<◌, ◌≤◌, ◌^◌, length, OnOk, Err};
 ghost use Rattle.tib_expand.specs.Reached.{most_parts};
 ghost use Rattle.tib_determinize.specs.Stepped.{IsAdded, IsWithinBudget};
 
 use crate::settling::Step;
 use crate::vector::Vector;
 use crate::vector_rule::VectorRule;
-use std::alloc::{AllocError, Global};
+use smallvec::SmallVec;
+use std::alloc::Global;
 use tib_expand::{Edges, ExpandError};
 use tib_tree::Label;
-
-// The same positions.
-fn copied(alloc: Global, positions: &[u32]) -> Result<Vec<u32>, AllocError>
-    ensures { IfOk result (λ r. r.items ≡ positions.now) }
-{
-    let mut same = Vec::new(alloc);
-    same.extend_from_slice(positions)?;
-    Ok(same)
-}
 
 /// Edges, as far as they are listed.
 #[derive(Drop)]
@@ -68,7 +60,7 @@ impl VectorListing {
         if parts > self.budget {
             return Err(ExpandError::More);
         }
-        let Ok(positions) = copied(alloc, positions) else {
+        let Ok(positions) = SmallVec::from_slice(alloc, positions) else {
             return Err(ExpandError::OutOfMemory);
         };
         let Step { cost, vector } = step;

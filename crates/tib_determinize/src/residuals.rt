@@ -6,7 +6,7 @@ ghost use Rattle.tib_lex.specs.Lists.{Each};
 ghost use Rattle.tib_expand.specs.Reached.{most_parts};
 ghost use Rattle.tib_determinize.specs.Shapes.{shapes_in};
 ghost use Rattle.tib_determinize.specs.Determinization.{LeftsBelow};
-ghost use Rattle.tib_determinize.specs.Started.{finals, start_in, with_final};
+ghost use Rattle.tib_determinize.specs.Started.{finals};
 ghost use Rattle.tib_determinize.specs.Stepped.{AddsSteps, HasSteps, IsWithinBudget, StepsExceed, StepsOverrun};
 ghost use Rattle.tib_determinize.specs.Tries.{by_last, behind_label, leaf_tries, leaf_try, tries};
 ghost use Rattle.tib_determinize.specs.Occurrences.{HaveStanding, LackNone};
@@ -17,6 +17,7 @@ use crate::holders::Holders;
 use crate::listing::VectorListing;
 use crate::occurrences::{Occurrence, Occurrences};
 use crate::shapes::shapes_of;
+use crate::started::final_positions;
 use crate::vector::Vector;
 use crate::walk::{Walk, list, list_all};
 use crate::wide::wide_states;
@@ -38,13 +39,6 @@ pub struct Residuals<'a, S> {
     pub ghost listed: { shapes.items ≡ shapes_in normal.now.rules },
     pub ghost lack_none: { LackNone normal.now.rules occurrences.many occurrences.lists.items },
     pub ghost left_range: { LeftsBelow (length normal.now.names) normal.now.rules },
-}
-
-// The residual of the start, if it is in a vector.
-fn final_of(vector: &Vector) -> Option<Cost>
-    ensures { result ≡ start_in vector.now }
-{
-    vector.residual(0)
 }
 
 impl<'a, S: Semiring> Residuals<'a, S> {
@@ -76,13 +70,7 @@ impl<'a, S: Semiring> Residuals<'a, S> {
         requires { length order.now < 2 ^ 32 }
         ensures { IfOk result (λ found. found.items ≡ finals 0 order.now) }
     {
-        let mut found = Vec::new(alloc);
-        for position in 0..order.len() {
-            if let Some(residual) = final_of(&order[position]) {
-                found.push((position as u32, residual))?;
-            }
-        }
-        Ok(found)
+        final_positions(alloc, order)
     }
 }
 

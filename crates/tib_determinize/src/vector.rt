@@ -1,17 +1,40 @@
 //! Vectors of states with residuals, the keys of the operation.
 
-ghost use Rattle.std.specs.Prelude.{◌≡◌, ℕ, ◌+◌, ◌*◌, ◌%◌, ◌<◌, Some, refl};
+ghost use Rattle.std.specs.Prelude.{◌≡◌, ℕ, ◌+◌, ◌*◌, ◌%◌, ◌<◌, ◌≤◌, Some, length, refl};
+ghost use Rattle.std.proofs.Common.{get_or};
 ghost use Rattle.std.specs.Cmp.{partial_equiv_from_equiv};
 ghost use Rattle.std.specs.Hash as fed;
 ghost use Rattle.tib_determinize.specs.Determinization.{vector_cmp};
 ghost use Rattle.tib_determinize.specs.Keys.{entry_digit, keys_po, keys_tie, keys_total, same_equiv, same_vector};
 ghost use Rattle.tib_determinize.specs.Lookup.{residual_in};
+ghost use Rattle.tib_determinize.specs.Vectors.{Rises};
 
 use std::cmp::Ordering;
 use std::hash::{Hash, Hasher};
 use std::marker::Model;
 use tib_cost::Cost;
 use tib_expand::TableKey;
+
+// How many entries, whose states ascend, are those of states below one.
+fn count_below(entries: &[(u32, Cost)], state: u32) -> usize
+    requires { Rises entries.now }
+    ensures within { result ≤ length entries.now }
+    ensures before { (i : ℕ) → i < result → (get_or entries.now i (0, 0)).0 < state }
+    ensures behind { (i : ℕ) → result ≤ i → i < length entries.now → state
+        ≤ (get_or entries.now i (0, 0)).0 }
+{
+    let mut low = 0;
+    let mut high = entries.len();
+    while low < high {
+        let middle = low + (high - low) / 2;
+        if entries[middle].0 < state {
+            low = middle + 1;
+        } else {
+            high = middle;
+        }
+    }
+    low
+}
 
 /// States, ascending, each with its residual.
 #[derive(Drop)]
@@ -52,6 +75,19 @@ impl Vector {
             }
         }
         None
+    }
+
+    /// The residual of a state in a vector whose states ascend. Cost: a search by halving.
+    pub(crate) fn residual_ascending(&self, state: u32) -> Option<Cost>
+        requires { Rises self.now }
+        ensures { result ≡ residual_in state self.now }
+    {
+        let at = count_below(&self.entries, state);
+        if at >= self.entries.len() {
+            return None;
+        }
+        let (other, residual) = self.entries[at];
+        if other == state { Some(residual) } else { None }
     }
 }
 

@@ -266,8 +266,8 @@ fn push_levels(
 
 /// Lists the edges of a walk, of which these rules are alive after the last place. `More` comes
 /// exactly where they have more parts than the budget leaves. Cost: for each list of positions that
-/// some rule matches from some place on, the rules that match it there, with one look into a vector
-/// for each of them and each position that is wanted before it.
+/// some rule matches from some place on, the rules that match it there, with one search by halving
+/// in a vector for each of them and each position that is wanted before it.
 pub(crate) fn list_all<S: Semiring>(
     alloc: Global,
     walk: &Walk<'_>,
@@ -296,6 +296,9 @@ pub(crate) fn list_all<S: Semiring>(
     ensures within { OnOk result (IsWithinBudget listing.new) }
     ensures budget { listing.new.budget ≡ listing.old.budget }
 {
+    if alive.is_empty() {
+        return Ok(());
+    }
     let mut levels = Vec::new(alloc);
     let Ok(first) = Level::new(alloc, walk, holders, walk.rank - 1, Vec::new(alloc), alive) else {
         return Err(ExpandError::OutOfMemory);

@@ -1,4 +1,4 @@
-use Rattle.std.proofs.Common.{◌≡◌, refl, ◌+◌, ◌-◌, ◌<◌, ◌++◌, List, [], ◌∷◌, length, suc, arith, ap, sym, ◌∙◌, subst}
+use Rattle.std.proofs.Common.{rules, ◌≡◌, refl, ◌+◌, ◌-◌, ◌<◌, ◌++◌, List, [], ◌∷◌, length, suc, arith, ap, sym, ◌∙◌, subst}
 use Rattle.tib_expand.specs.declared.place.ExpandError.{ExpandError}
 use Rattle.tib_determinize.specs.declared.walk.Level.{Level}
 use Rattle.tib_lex.specs.Lists.{Each}
@@ -9,7 +9,21 @@ use Rattle.tib_determinize.specs.Levels.{steps_of}
 use Rattle.tib_determinize.specs.Tries.{first_at, many_at, under, behind_label}
 use Rattle.tib_determinize.proofs.Results.{err_is, if_some}
 use Rattle.tib_determinize.proofs.WalkLoop.{IsWalking, walking_begins, walking_done, walking_next, walking_overruns, walking_skips, last_level, steps_fewer, steps_done, steps_moved}
+use Rattle.tib_determinize.specs.declared.alive.Alive.{Alive}
+use Rattle.tib_determinize.proofs.Remaining.{under_none}
+use Rattle.tib_determinize.proofs.Visits.{adds_nothing, nothing_left}
 use Rattle.tib_determinize.proofs.walk.list_all.Goals as goal
+
+pub returns-then-is_empty-clause-added : goal.returns-then-is_empty-clause-added
+returns-then-is_empty-clause-added g c =
+    let w = c.args.walk.now in
+    let product = g.S.Semiring.product in
+    let short : length c.args.alive.items ≡ 0 = search rules in
+    let empty : c.args.alive.items ≡ [] = nothing_left c.args.alive.items short in
+    let total : w.rank + 0 ≡ w.rank = omega arith in
+    adds_nothing product w.rules.now w.order.now (behind_label w.label (under w.position w.last w.rank [])) c.args.listing.now
+    (under_none product g.met.S.Semiring.laws w.rules.now c.requires.normal w.order.now w.label w.rank w.position w.last w.rank [] total
+    (subst (λ (ms : List Alive). AreLeft product w.rules.now w.order.now w.label w.rank w.last (vector_at w.order.now w.position) w.rank [] ms) empty c.requires.alive))
 
 pub loop-whole-init : goal.loop-whole-init
 loop-whole-init g c =

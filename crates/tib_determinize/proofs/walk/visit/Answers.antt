@@ -14,8 +14,17 @@ use Rattle.tib_determinize.specs.Stepped.{AddsSteps, IsUnderway, StepsOverrun}
 use Rattle.tib_expand.specs.declared.place.ExpandError.{ExpandError}
 use Rattle.tib_determinize.proofs.Results.{err_is}
 use Rattle.tib_determinize.proofs.Underway.{underway_begins}
-use Rattle.tib_determinize.proofs.Visits.{adds_nothing, alive_next, nothing_next, level_below, tries_fresh, leaf_is, nothing_left, fits, in_order, long}
+use Rattle.tib_determinize.proofs.Visits.{adds_nothing, alive_next, nothing_next, level_below, tries_fresh, leaf_is, nothing_left, fits, in_order, long, rises_next}
 use Rattle.tib_determinize.proofs.walk.visit.Goals as goal
+
+pub narrow-requires-clause-rise : goal.narrow-requires-clause-rise
+narrow-requires-clause-rise g c =
+    let w = c.args.walk.now in
+    let l = c.args.level.now in
+    let product = g.S.Semiring.product in
+    let laws = g.met.S.Semiring.laws in
+    let at = get_or_read w.order.now l.next c.index-walk-level.result (in_order product laws w.rules.now c.requires.normal w.order.now w.label w.rank w.position w.last c.requires.rise l c.requires.level c.requires.next) c.index-walk-level.is in
+    rises_next product laws w.rules.now c.requires.normal w.order.now w.label w.rank w.position w.last c.requires.rise l c.requires.level c.requires.next (get_or w.order.now l.next c.index-walk-level.result) (sym (at c.index-walk-level.result) ∙ at [])
 
 pub returns-then-is_empty-clause-underway : goal.returns-then-is_empty-clause-underway
 returns-then-is_empty-clause-underway g c =

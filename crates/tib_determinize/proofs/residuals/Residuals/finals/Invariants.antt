@@ -1,6 +1,0 @@
-use Rattle.std.proofs.Common.{◌≡◌, ◌++◌, drop}
-use Rattle.tib_determinize.specs.Started.{finals}
-use Rattle.tib_determinize.proofs.residuals.Residuals.finals.Given as goal
-
-abbrev pub invariant-loop-position : goal.invariant-loop-position
-invariant-loop-position g l = l.found.items ++ finals l.position (drop l.position l.order) ≡ finals 0 l.order
