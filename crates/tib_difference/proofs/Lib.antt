@@ -27,3 +27,5 @@ mod Positions
 mod PositionTries
 mod Expanding
 mod Walking
+mod Single
+mod Halving

@@ -15,7 +15,7 @@ use Rattle.tib_determinize.specs.declared.vector_rule.VectorRule.{VectorRule}
 use Rattle.tib_determinize.specs.VectorRules.{places_of, read_places}
 use Rattle.tib_difference.specs.declared.listing.KeyListing.{KeyListing}
 use Rattle.tib_difference.specs.Difference.{KeyOf, keys_at, IsEdgeOver, IsSeedEdge, IsSeed, edge_parts}
-use Rattle.tib_difference.specs.KeyLaws.{one_over}
+use Rattle.tib_difference.specs.OneEdge.{same_edge}
 use Rattle.tib_difference.specs.Listing.{Listed, IsWithinBudget, IsListedAt, HasAll, Exceed}
 use Rattle.tib_difference.specs.Tries.{leaf_try, leaves_from, leaves_of}
 use Rattle.tib_difference.proofs.Edges.{edge_of, is_listed, ends_are}
@@ -80,7 +80,7 @@ module _ (one two : List (Rule ℕ)) (normal : AreNormal one) where
       subst (λ (ps : List ℕ). Has (leaves_of one) (o.0, ps)) (sym is.none) (is_leaf 0 one o.0 o.0 (omega arith) is.edge.below leaf)
 
   alone : (o : ℕ × List ℕ) (e f : Rule KeyOf) → IsSeedEdge one two o e → IsSeedEdge one two o f → e ≡ f
-  alone o e f x y = one_over one two o.0 [] e f x.edge y.edge
+  alone o e f x y = same_edge one two o.0 [] e f x.edge y.edge
 
   all_listed : (es : List Listed) → Along (IsListedAt one two []) (leaves_of one) es → Lists (IsSeedEdge one two) (map (edge_of []) es)
   all_listed es a = lists one two [] (IsSeedEdge one two) (leaves_of one) (leaves_once 0 one) sound whole es a

@@ -1,6 +1,6 @@
 -- States that are sorted, each once.
-use Rattle.std.specs.Prelude.{ℕ, ◌<◌, List}
-use Rattle.std.proofs.Common.{subst, Contains}
+use Rattle.std.specs.Prelude.{ℕ, ◌<◌, List, [], ◌∷◌, length}
+use Rattle.std.proofs.Common.{arith, subst, Contains}
 use Rattle.std.specs.List.Sorted.{IsStrictlyIncreasing}
 use Rattle.std.proofs.lemmas.List.Kept.{AllPairs-from_increasing}
 use Rattle.tib_lex.specs.Lists.{Has, Ascends}
@@ -21,3 +21,9 @@ sorting_of old new up to from = record {
   to = λ q h. contains_has new q (to q (has_contains old q h));
   from = λ q h. contains_has old q (from q (has_contains new q h));
 }
+
+-- fewer than two states are sorted
+pub sorting_few : (xs : List ℕ) → length xs < 2 → IsSorting xs xs
+sorting_few [] few = record { ascends = tt; to = λ q h. h; from = λ q h. h }
+sorting_few (x ∷ []) few = record { ascends = (tt, tt); to = λ q h. h; from = λ q h. h }
+sorting_few (x ∷ (y ∷ xs)) few = absurd (omega (arith, few))

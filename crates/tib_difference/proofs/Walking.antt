@@ -1,8 +1,8 @@
 -- Walks over lists of positions, prefix by prefix.
-use Rattle.std.specs.Global.{Vec}
 use Rattle.std.specs.Prelude.{◌≡◌, ℕ, ◌+◌, ◌-◌, ◌<◌, ◌≤◌, nat_eq, nat_lt, if◌then◌else◌, Bool, true, false, List, [], ◌∷◌, ◌++◌, length, take, refl}
 use Rattle.std.proofs.Common.{zero, suc, arith, ap, sym, ◌∙◌, subst, get_or, append_assoc, inl, inr, length-append, length-take}
 use Rattle.std.proofs.lemmas.List.{map-append}
+use Rattle.smallvec.specs.SmallVec.{SmallVec}
 use Rattle.tib_lex.specs.Lists.{Each}
 use Rattle.tib_lex.proofs.Lists.{append_nil}
 use Rattle.tib_lex.proofs.Numbers.{below_cases}
@@ -100,10 +100,10 @@ choices_low states order n j i h =
     (low_itself (nat_lt j i) (nat_eq (get_or states i 0) (get_or states j 0)) (length order) n h)
 
 -- the last prefix is taken from a stack
-pub popped : (stack rest : List (Vec ℕ)) (v : Vec ℕ) → stack ≡ rest ++ v ∷ [] → prefixes_of stack ≡ prefixes_of rest ++ v.items ∷ []
-popped stack rest v e = ap prefixes_of e ∙ map-append (λ (w : Vec ℕ). w.items) rest (v ∷ [])
+pub popped : (stack rest : List (SmallVec ℕ)) (v : SmallVec ℕ) → stack ≡ rest ++ v ∷ [] → prefixes_of stack ≡ prefixes_of rest ++ v.items ∷ []
+popped stack rest v e = ap prefixes_of e ∙ map-append (λ (w : SmallVec ℕ). w.items) rest (v ∷ [])
 
-module _ (at : ℕ → List ℕ) (r rank : ℕ) (stack rest : List (Vec ℕ)) (v : Vec ℕ) (e : stack ≡ rest ++ v ∷ []) where
+module _ (at : ℕ → List ℕ) (r rank : ℕ) (stack rest : List (SmallVec ℕ)) (v : SmallVec ℕ) (e : stack ≡ rest ++ v ∷ []) where
   -- a whole list is the next one
   pub whole_next : length v.items ≡ rank → behind_rule r (remaining at rank (prefixes_of stack)) ≡ (r, v.items) ∷ [] ++ behind_rule r (remaining at rank (prefixes_of rest))
   whole_next h = ap (λ pss. behind_rule r (remaining at rank pss)) (popped stack rest v e) ∙ ap (behind_rule r) (remaining_whole at rank (prefixes_of rest) v.items h)
@@ -117,7 +117,7 @@ module _ (at : ℕ → List ℕ) (r rank : ℕ) (stack rest : List (Vec ℕ)) (v
       ∙ ap (λ pss. behind_rule r (remaining at rank pss)) (sym k)
 
 -- what is known of a prefix and of those below it
-pub last_prefix : (many rank : ℕ) (stack rest : List (Vec ℕ)) (v : Vec ℕ) → stack ≡ rest ++ v ∷ [] → Each (IsPrefix many rank) (prefixes_of stack) → Each (IsPrefix many rank) (prefixes_of rest) × IsPrefix many rank v.items
+pub last_prefix : (many rank : ℕ) (stack rest : List (SmallVec ℕ)) (v : SmallVec ℕ) → stack ≡ rest ++ v ∷ [] → Each (IsPrefix many rank) (prefixes_of stack) → Each (IsPrefix many rank) (prefixes_of rest) × IsPrefix many rank v.items
 last_prefix many rank stack rest v e h = each_split (IsPrefix many rank) (prefixes_of rest) v.items (subst (λ pss. Each (IsPrefix many rank) pss) (popped stack rest v e) h)
 
 module _ (one : List (Rule ℕ)) (order : List KeyOf) (n r j rank : ℕ) (is : rank ≡ length (states_in one r)) where

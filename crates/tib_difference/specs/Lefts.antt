@@ -1,11 +1,16 @@
 -- The left states of the rules of a label whose states are in given sets.
 use Rattle.std.specs.Prelude.{ℕ, ◌<◌, ◌&&◌, nat_eq, Bool, true, false, if◌then◌else◌, List, [], ◌∷◌, ◌++◌, length}
-use Rattle.tib_lex.specs.Lists.{Has, Ascends}
+use Rattle.tib_lex.specs.Lists.{Has, Each, Ascends}
 use Rattle.tib_grammar.specs.Sides.{holes}
 use Rattle.tib_grammar.specs.Run.{rule_at}
 use Rattle.tib_grammar.specs.declared.Rule.{Rule}
 use Rattle.tib_difference.specs.Subsets.{SubsetOf}
+use Rattle.tib_difference.specs.Difference.{KeyOf}
 use Rattle.tib_difference.specs.Shapes.{positions_with}
+
+-- the set of each key ascends
+abbrev pub AreAscending : List KeyOf → Type 0
+AreAscending keys = Each (λ k. Ascends ◌<◌ k.1) keys
 
 -- whether a state is in a set
 abbrev pub holds : SubsetOf → ℕ → Bool

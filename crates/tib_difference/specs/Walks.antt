@@ -1,10 +1,10 @@
 -- Walks over the lists of positions for a rule and a place, as stacks of lists that are begun.
 use Rattle.std.specs.Prelude.{◌≡◌, ℕ, ◌<◌, ◌≤◌, List, [], length, map}
-use Rattle.std.specs.Global.{Vec}
+use Rattle.smallvec.specs.SmallVec.{SmallVec}
 use Rattle.tib_lex.specs.Lists.{Each}
 
 -- the lists of a stack
-abbrev pub prefixes_of : List (Vec ℕ) → List (List ℕ)
+abbrev pub prefixes_of : List (SmallVec ℕ) → List (List ℕ)
 prefixes_of stack = map (λ v. v.items) stack
 
 -- one of these places has no choice

@@ -9,6 +9,7 @@ ghost use Rattle.tib_difference.specs.Walks.{IsStuck, prefixes_of};
 
 use crate::lists::{list_of, state_at};
 use crate::walk::Walk;
+use smallvec::SmallVec;
 use std::alloc::{AllocError, Global};
 use tib_grammar::Item;
 
@@ -53,13 +54,15 @@ pub(crate) fn is_stuck(walk: &Walk<'_>, states: &[Item<u32>], rank: u32) -> bool
 }
 
 // Some positions, and one after them.
-fn with_position(alloc: Global, prefix: &[u32], position: u32) -> Result<Vec<u32>, AllocError>
+fn with_position(
+    alloc: Global,
+    prefix: &[u32],
+    position: u32,
+) -> Result<SmallVec<u32, 4>, AllocError>
     ensures { IfOk result (λ v. v.items ≡ prefix.now ++ position ∷ []) }
 {
-    let mut all = Vec::with_capacity(alloc, prefix.len() + 1)?;
-    for other in prefix {
-        all.push(*other)?;
-    }
+    let mut all = SmallVec::with_capacity(alloc, prefix.len() + 1)?;
+    all.extend_from_slice(prefix)?;
     all.push(position)?;
     Ok(all)
 }
@@ -69,7 +72,7 @@ fn push_grown(
     alloc: Global,
     prefix: &[u32],
     positions: &[u32],
-    stack: &mut Vec<Vec<u32>>,
+    stack: &mut Vec<SmallVec<u32, 4>>,
 ) -> Result<(), AllocError>
     ensures { OnOk result (prefixes_of stack.new.items ≡ prefixes_of stack.old.items
         ++ grown prefix.now positions.now) }
@@ -86,7 +89,7 @@ pub(crate) fn push_choices(
     walk: &Walk<'_>,
     states: &[Item<u32>],
     prefix: &[u32],
-    stack: &mut Vec<Vec<u32>>,
+    stack: &mut Vec<SmallVec<u32, 4>>,
 ) -> Result<(), AllocError>
     requires next { length prefix.now < length states.now }
     requires many { length states.now < 2 ^ 32 }

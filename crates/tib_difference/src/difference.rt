@@ -3,6 +3,7 @@
 ghost use Rattle.std.specs.Prelude.{◌≡◌, ℕ, ◌<◌, ◌≤◌, [], length, IfOk, Err};
 ghost use Rattle.tib_determinize.specs.Determinization.{LeftsBelow};
 ghost use Rattle.tib_difference.specs.Held.{held};
+ghost use Rattle.tib_difference.specs.Lefts.{AreAscending};
 ghost use Rattle.tib_difference.specs.Shapes.{IsIndex};
 ghost use Rattle.tib_difference.specs.Tries.{leaves_of, tries, users_of};
 ghost use Rattle.tib_difference.specs.Listing.{Exceed, HasAll, IsWithinBudget};
@@ -88,6 +89,7 @@ impl<'a, S: Semiring> Difference<'a, S> {
         budget: u64,
     ) -> Result<KeyListing, ExpandError>
         requires position { position < length order.now }
+        requires ascending { AreAscending order.now }
         requires budget { budget ≤ most_parts }
         ensures listed { IfOk result (HasAll self.now.left.now.rules self.now.right.now.rules
             order.now (tries self.now.left.now.rules order.now position)) }

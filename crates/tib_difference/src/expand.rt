@@ -65,7 +65,7 @@ impl<'a, S: Semiring> Expand for Difference<'a, S> {
         rule: &VectorRule,
         ends: &[u32],
     ) -> Result<Rule<u32>, AllocError> {
-        let right = Side::over(alloc, rule.label, &rule.positions)?;
+        let right = Side::over(alloc, rule.label, rule.positions.as_slice())?;
         Ok(Rule {
             left: ends[rule.end as usize],
             right,

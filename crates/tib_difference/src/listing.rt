@@ -4,6 +4,7 @@ ghost use Rattle.std.specs.Prelude.{◌≡◌, ◌+◌, ◌<◌, ◌^◌, length
 ghost use Rattle.tib_difference.specs.Listing.{IsAdded, IsWithinBudget};
 
 use crate::subset_key::SubsetKey;
+use smallvec::SmallVec;
 use std::alloc::Global;
 use tib_cost::Cost;
 use tib_determinize::VectorRule;
@@ -41,7 +42,7 @@ impl KeyListing {
     pub fn add(
         &mut self,
         label: Label,
-        positions: Vec<u32>,
+        positions: SmallVec<u32, 4>,
         cost: Cost,
         key: SubsetKey,
     ) -> Result<(), ExpandError>

@@ -5,11 +5,12 @@ ghost use Rattle.tib_lex.specs.Lists.{Each};
 ghost use Rattle.tib_grammar.specs.Forms.{AreNormal};
 ghost use Rattle.tib_grammar.specs.Items.{state_in};
 ghost use Rattle.tib_difference.specs.Difference.{keys_at, subsets_of};
-ghost use Rattle.tib_difference.specs.Lefts.{are_in, first_of, lefts_at, lefts_over, IsSorting};
+ghost use Rattle.tib_difference.specs.Lefts.{AreAscending, are_in, first_of, lefts_at, lefts_over, IsSorting};
 ghost use Rattle.tib_difference.specs.Shapes.{IsIndex};
 ghost use Rattle.tib_difference.specs.Subsets.{IsSubset};
 
 use crate::subset_key::SubsetKey;
+use smallvec::SmallVec;
 use std::alloc::{AllocError, Global};
 use tib_grammar::{Item, Rule};
 use tib_key_edges::ShapeIndex;
@@ -24,7 +25,8 @@ pub(crate) struct Second<'r> {
 
 // Whether each of some states is in the set of the key at its place, and there are as many of both.
 fn all_in(states: &[Item<u32>], order: &[SubsetKey], positions: &[u32]) -> bool
-    requires { Each (λ p. p < length order.now) positions.now }
+    requires within { Each (λ p. p < length order.now) positions.now }
+    requires ascending { AreAscending order.now }
     ensures { result ≡ are_in (map state_in states.now) (subsets_of (keys_at order.now
         positions.now)) }
 {
@@ -33,7 +35,7 @@ fn all_in(states: &[Item<u32>], order: &[SubsetKey], positions: &[u32]) -> bool
     }
     for i in 0..states.len() {
         let key = &order[positions[i] as usize];
-        if !key.has(states[i].state()) {
+        if !key.has_ascending(states[i].state()) {
             return false;
         }
     }
@@ -42,7 +44,7 @@ fn all_in(states: &[Item<u32>], order: &[SubsetKey], positions: &[u32]) -> bool
 
 // Appends the left states of those of some rules whose states are in the sets of the keys.
 fn add_lefts(
-    states: &mut Vec<u32>,
+    states: &mut SmallVec<u32, 4>,
     rules: &[Rule<u32>],
     numbers: &[u32],
     order: &[SubsetKey],
@@ -51,6 +53,7 @@ fn add_lefts(
     requires normal { AreNormal rules.now }
     requires numbers { Each (λ m. m < length rules.now) numbers.now }
     requires within { Each (λ p. p < length order.now) positions.now }
+    requires ascending { AreAscending order.now }
     ensures { OnOk result (states.new.items ≡ states.old.items ++ lefts_at rules.now
         (subsets_of (keys_at order.now positions.now)) numbers.now) }
 {
@@ -82,16 +85,17 @@ fn lefts(
     label: Label,
     order: &[SubsetKey],
     positions: &[u32],
-) -> Result<Vec<u32>, AllocError>
+) -> Result<SmallVec<u32, 4>, AllocError>
     requires normal { AreNormal second.now.rules.now }
     requires indexed { IsIndex second.now.rules.now second.now.index.now }
     requires within { Each (λ p. p < length order.now) positions.now }
+    requires ascending { AreAscending order.now }
     requires few { length positions.now < 2 ^ 32 }
     ensures { IfOk result (λ v. v.items ≡ lefts_over second.now.rules.now label
         (subsets_of (keys_at order.now positions.now))) }
 {
     let rank = positions.len() as u32;
-    let mut states = Vec::new(alloc);
+    let mut states = SmallVec::new(alloc);
     let firsts = first_states(order, positions);
     for first in firsts {
         let numbers = second.index.find(*first, label, rank);
@@ -101,9 +105,12 @@ fn lefts(
 }
 
 // Some states, ascending, each once.
-fn ascending(states: Vec<u32>) -> Vec<u32>
+fn ascending(states: SmallVec<u32, 4>) -> SmallVec<u32, 4>
     ensures { IsSorting states.items result.items }
 {
+    if states.len() < 2 {
+        return states;
+    }
     let mut states = states;
     states.sort_unstable();
     states.dedup();
@@ -119,10 +126,11 @@ pub(crate) fn subset_over(
     label: Label,
     order: &[SubsetKey],
     positions: &[u32],
-) -> Result<Vec<u32>, AllocError>
+) -> Result<SmallVec<u32, 4>, AllocError>
     requires normal { AreNormal second.now.rules.now }
     requires indexed { IsIndex second.now.rules.now second.now.index.now }
     requires within { Each (λ p. p < length order.now) positions.now }
+    requires ascending { AreAscending order.now }
     requires few { length positions.now < 2 ^ 32 }
     ensures { IfOk result (λ v. IsSubset second.now.rules.now label
         (subsets_of (keys_at order.now positions.now)) v.items) }

@@ -3,19 +3,22 @@
 ghost use Rattle.std.specs.Prelude.{◌≡◌, ℕ, ◌+◌, ◌*◌, ◌%◌, ◌<◌, Some, refl};
 ghost use Rattle.std.specs.Cmp.{partial_equiv_from_equiv};
 ghost use Rattle.tib_difference.specs.Difference.{key_cmp};
+ghost use Rattle.tib_lex.specs.Lists.{Ascends};
 ghost use Rattle.tib_difference.specs.Lefts.{holds};
 ghost use Rattle.tib_difference.specs.Keys.{keys_po, keys_tie, keys_total, same_equiv, same_key};
 
+use smallvec::SmallVec;
 use std::cmp::Ordering;
 use std::hash::{Hash, Hasher};
 use std::marker::Model;
 use tib_expand::TableKey;
 
-/// A state of the first grammar and states of the second, ascending.
+/// A state of the first grammar and states of the second, ascending. A key with up to four states
+/// of the second takes no memory of its own.
 #[derive(Drop)]
 pub struct SubsetKey {
     state: u32,
-    subset: Vec<u32>,
+    subset: SmallVec<u32, 4>,
 }
 
 impl Model for SubsetKey {
@@ -38,9 +41,20 @@ fn is_among(states: &[u32], state: u32) -> bool
     false
 }
 
+// Whether a state is among some states that ascend. A search by halves pays where they are many.
+fn is_among_ascending(states: &[u32], state: u32) -> bool
+    requires { Ascends ◌<◌ states.now }
+    ensures { result ≡ holds states.now state }
+{
+    if states.len() <= 16 {
+        return is_among(states, state);
+    }
+    states.binary_search(&state).is_ok()
+}
+
 impl SubsetKey {
     /// The key of these states.
-    pub fn new(state: u32, subset: Vec<u32>) -> SubsetKey
+    pub fn new(state: u32, subset: SmallVec<u32, 4>) -> SubsetKey
         ensures { result ≡ (state, subset.items) }
     {
         SubsetKey { state, subset }
@@ -57,14 +71,23 @@ impl SubsetKey {
     pub fn subset(&self) -> &[u32]
         ensures { result.now ≡ self.now.1 }
     {
-        &self.subset
+        self.subset.as_slice()
     }
 
     /// Whether a state of the second grammar is in the set. Worst case: one look at each member.
     pub(crate) fn has(&self, state: u32) -> bool
         ensures { result ≡ holds self.now.1 state }
     {
-        is_among(&self.subset, state)
+        is_among(self.subset.as_slice(), state)
+    }
+
+    /// Whether a state of the second grammar is in the set, where this ascends. Worst case: as many
+    /// looks as the number of members has binary digits, and of up to 16 members one look at each.
+    pub(crate) fn has_ascending(&self, state: u32) -> bool
+        requires { Ascends ◌<◌ self.now.1 }
+        ensures { result ≡ holds self.now.1 state }
+    {
+        is_among_ascending(self.subset.as_slice(), state)
     }
 }
 
@@ -140,13 +163,14 @@ impl TableKey for SubsetKey {
         if count == 0 {
             return self.state % 16;
         }
-        let first = self.subset[0] % 16;
-        let last = self.subset[count - 1] % 16;
+        let subset = self.subset.as_slice();
+        let first = subset[0] % 16;
+        let last = subset[count - 1] % 16;
         (self.state % 16 + 3 * ((count % 16) as u32) + 5 * first + 7 * last) % 16
     }
 
     fn entries(&self) -> u64 {
-        1 + self.subset.len() as u64
+        1 + self.subset.as_slice().len() as u64
     }
 
     ghost low = { shelf_low };

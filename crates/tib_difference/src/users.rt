@@ -6,6 +6,7 @@ ghost use Rattle.tib_lex.specs.Lists.{Each, Has};
 ghost use Rattle.tib_grammar.specs.Forms.{AreNormal};
 ghost use Rattle.tib_expand.specs.Reached.{most_parts};
 ghost use Rattle.tib_difference.specs.Held.{HoldIfWide};
+ghost use Rattle.tib_difference.specs.Lefts.{AreAscending};
 ghost use Rattle.tib_difference.specs.Listing.{Exceed, HasAll, IsWithinBudget};
 ghost use Rattle.tib_difference.specs.Shapes.{IsIndex};
 ghost use Rattle.tib_difference.specs.Tries.{states_in, tries_all};
@@ -73,6 +74,7 @@ pub(crate) fn list_users(
     requires indexed { IsIndex second.now.rules.now second.now.index.now }
     requires users { Each (IsUser first.now) users.now }
     requires position { position < length order.now }
+    requires ascending { AreAscending order.now }
     requires budget { budget ≤ most_parts }
     ensures listed { IfOk result (HasAll first.now second.now.rules.now order.now
         (tries_all first.now order.now position users.now)) }

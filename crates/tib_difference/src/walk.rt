@@ -6,6 +6,7 @@ ghost use Rattle.tib_lex.specs.Lists.{Each, Has};
 ghost use Rattle.tib_grammar.specs.Forms.{AreNormal, IsNormalSide};
 ghost use Rattle.tib_grammar.specs.Run.{rule_at};
 ghost use Rattle.tib_expand.specs.Reached.{most_parts};
+ghost use Rattle.tib_difference.specs.Lefts.{AreAscending};
 ghost use Rattle.tib_difference.specs.Listing.{Adds, Exceed, HasAll, IsWithinBudget, Overruns};
 ghost use Rattle.tib_difference.specs.Shapes.{IsIndex};
 ghost use Rattle.tib_difference.specs.Held.{AreHolders};
@@ -15,6 +16,7 @@ use crate::choices::{is_stuck, push_choices};
 use crate::listing::KeyListing;
 use crate::subset::{Second, subset_over};
 use crate::subset_key::SubsetKey;
+use smallvec::SmallVec;
 use std::alloc::Global;
 use tib_expand::ExpandError;
 use tib_grammar::Rule;
@@ -36,7 +38,7 @@ pub(crate) struct Walk<'w> {
 pub(crate) fn list_edge(
     alloc: Global,
     walk: &Walk<'_>,
-    positions: Vec<u32>,
+    positions: SmallVec<u32, 4>,
     listing: &mut KeyListing,
 ) -> Result<(), ExpandError>
     requires first { AreNormal walk.now.first.now }
@@ -44,6 +46,7 @@ pub(crate) fn list_edge(
     requires indexed { IsIndex walk.now.second.rules.now walk.now.second.index.now }
     requires rule { walk.now.rule < length walk.now.first.now }
     requires positions { Each (λ p. p < length walk.now.order.now) positions.items }
+    requires ascending { AreAscending walk.now.order.now }
     requires few { length positions.items < 2 ^ 32 }
     requires within { IsWithinBudget listing.old }
     ensures added { OnOk result (Adds walk.now.first.now walk.now.second.rules.now
@@ -56,7 +59,8 @@ pub(crate) fn list_edge(
 {
     let rule = &walk.first[walk.rule as usize];
     let (label, _) = rule.root();
-    let Ok(subset) = subset_over(alloc, &walk.second, label, walk.order, &positions) else {
+    let Ok(subset) = subset_over(alloc, &walk.second, label, walk.order, positions.as_slice())
+    else {
         return Err(ExpandError::OutOfMemory);
     };
     listing.add(
@@ -101,7 +105,7 @@ fn list_leaf(
         place: 0,
         position: 0,
     };
-    list_edge(alloc, &walk, Vec::new(alloc), listing)
+    list_edge(alloc, &walk, SmallVec::new(alloc), listing)
 }
 
 /// Lists the edges of the rules of the first grammar without states.
@@ -132,12 +136,37 @@ pub(crate) fn list_leaves(
     Ok(listing)
 }
 
-/// Lists the edges of a rule over all lists of positions in which a position is last at a place. It
-/// goes over prefixes of these lists, each with a choice at its next place, and over none where
-/// some place has no choice. `More` exactly where an edge has more parts than the budget leaves.
-/// Worst case: one step for each choice of each prefix, so at most as many for each edge as the
-/// rule has places.
-pub(crate) fn list_tries(
+// Lists the edge of a rule with one place over a position. A list has no other positions.
+fn list_single(alloc: Global, walk: &Walk<'_>, listing: &mut KeyListing) -> Result<(), ExpandError>
+    requires first { AreNormal walk.now.first.now }
+    requires second { AreNormal walk.now.second.rules.now }
+    requires indexed { IsIndex walk.now.second.rules.now walk.now.second.index.now }
+    requires rule { walk.now.rule < length walk.now.first.now }
+    requires place { walk.now.place < length (states_in walk.now.first.now walk.now.rule) }
+    requires position { walk.now.position < length walk.now.order.now }
+    requires ascending { AreAscending walk.now.order.now }
+    requires single { length (states_in walk.now.first.now walk.now.rule) ≡ 1 }
+    requires within { IsWithinBudget listing.old }
+    ensures added { OnOk result (Adds walk.now.first.now walk.now.second.rules.now
+        walk.now.order.now (tries_at walk.now.first.now walk.now.order.now walk.now.position
+        walk.now.rule walk.now.place) listing.old listing.new) }
+    ensures more { result ≡ Err ExpandError.More → Overruns walk.now.first.now
+        walk.now.second.rules.now walk.now.order.now (tries_at walk.now.first.now
+        walk.now.order.now walk.now.position walk.now.rule walk.now.place) listing.old }
+    ensures within { OnOk result (IsWithinBudget listing.new) }
+    ensures budget { listing.new.budget ≡ listing.old.budget }
+{
+    let mut positions = SmallVec::new(alloc);
+    let Ok(()) = positions.push(walk.position) else {
+        return Err(ExpandError::OutOfMemory);
+    };
+    list_edge(alloc, walk, positions, listing)
+}
+
+// Lists the edges of a rule over all lists of positions in which a position is last at a place. It
+// goes over prefixes of these lists, each with a choice at its next place, and over none where some
+// place has no choice.
+fn list_prefixes(
     alloc: Global,
     walk: &Walk<'_>,
     listing: &mut KeyListing,
@@ -148,6 +177,7 @@ pub(crate) fn list_tries(
     requires rule { walk.now.rule < length walk.now.first.now }
     requires place { walk.now.place < length (states_in walk.now.first.now walk.now.rule) }
     requires position { walk.now.position < length walk.now.order.now }
+    requires ascending { AreAscending walk.now.order.now }
     requires holders { 2 ≤ length (states_in walk.now.first.now walk.now.rule) →
         AreHolders walk.now.order.now walk.now.position walk.now.holders.now }
     requires within { IsWithinBudget listing.old }
@@ -167,7 +197,7 @@ pub(crate) fn list_tries(
         return Ok(());
     }
     let mut stack = Vec::new(alloc);
-    let Ok(()) = stack.push(Vec::new(alloc)) else {
+    let Ok(()) = stack.push(SmallVec::new(alloc)) else {
         return Err(ExpandError::OutOfMemory);
     };
     for _turn in 0..u64::MAX {
@@ -175,7 +205,7 @@ pub(crate) fn list_tries(
             return Ok(());
         };
         if prefix.len() < rank as usize {
-            let Ok(()) = push_choices(alloc, walk, states, &prefix, &mut stack) else {
+            let Ok(()) = push_choices(alloc, walk, states, prefix.as_slice(), &mut stack) else {
                 return Err(ExpandError::OutOfMemory);
             };
             continue;
@@ -186,4 +216,38 @@ pub(crate) fn list_tries(
         }
     }
     Err(ExpandError::OutOfMemory)
+}
+
+/// Lists the edges of a rule over all lists of positions in which a position is last at a place.
+/// `More` exactly where an edge has more parts than the budget leaves. Worst case: one step for
+/// each choice of each list that is begun, so at most as many for each edge as the rule has places.
+pub(crate) fn list_tries(
+    alloc: Global,
+    walk: &Walk<'_>,
+    listing: &mut KeyListing,
+) -> Result<(), ExpandError>
+    requires first { AreNormal walk.now.first.now }
+    requires second { AreNormal walk.now.second.rules.now }
+    requires indexed { IsIndex walk.now.second.rules.now walk.now.second.index.now }
+    requires rule { walk.now.rule < length walk.now.first.now }
+    requires place { walk.now.place < length (states_in walk.now.first.now walk.now.rule) }
+    requires position { walk.now.position < length walk.now.order.now }
+    requires ascending { AreAscending walk.now.order.now }
+    requires holders { 2 ≤ length (states_in walk.now.first.now walk.now.rule) →
+        AreHolders walk.now.order.now walk.now.position walk.now.holders.now }
+    requires within { IsWithinBudget listing.old }
+    ensures added { OnOk result (Adds walk.now.first.now walk.now.second.rules.now
+        walk.now.order.now (tries_at walk.now.first.now walk.now.order.now walk.now.position
+        walk.now.rule walk.now.place) listing.old listing.new) }
+    ensures more { result ≡ Err ExpandError.More → Overruns walk.now.first.now
+        walk.now.second.rules.now walk.now.order.now (tries_at walk.now.first.now
+        walk.now.order.now walk.now.position walk.now.rule walk.now.place) listing.old }
+    ensures within { OnOk result (IsWithinBudget listing.new) }
+    ensures budget { listing.new.budget ≡ listing.old.budget }
+{
+    let (_, rank) = walk.first[walk.rule as usize].root();
+    if rank == 1 {
+        return list_single(alloc, walk, listing);
+    }
+    list_prefixes(alloc, walk, listing)
 }

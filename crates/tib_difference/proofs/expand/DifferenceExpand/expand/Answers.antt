@@ -1,4 +1,7 @@
-use Rattle.std.proofs.Common.{ap, ◌∙◌, Err}
+use Rattle.std.proofs.Common.{ap, ◌∙◌, ◌<◌, length, Err}
+use Rattle.tib_lex.specs.Lists.{Ascends}
+use Rattle.tib_lex.proofs.Lists.{each_weaker}
+use Rattle.tib_difference.specs.Difference.{KeyOf, IsKey}
 use Rattle.tib_difference.proofs.Expanding.{position_edges_listed, position_ends, position_exceeds}
 use Rattle.tib_difference.proofs.expand.DifferenceExpand.expand.Goals as goal
 
@@ -14,3 +17,7 @@ returns-in-Ok-clause-ends g c =
 pub returns-in-Err-clause-more : goal.returns-in-Err-clause-more
 returns-in-Err-clause-more g c = λ e.
     position_exceeds c.args.self.now.left.now.rules c.args.self.now.right.now.rules c.args.order.now c.args.n c.requires.position c.args.budget (c.list_position.ensures.more (c.in-Err.is ∙ ap Err e))
+
+pub list_position-requires-clause-ascending : goal.list_position-requires-clause-ascending
+list_position-requires-clause-ascending g c =
+    each_weaker (IsKey (length c.args.self.now.left.now.names) (length c.args.self.now.right.now.names)) (λ (k : KeyOf). Ascends ◌<◌ k.1) c.args.order.now (λ k is. is.ascends) c.requires.admitted

@@ -4,7 +4,7 @@ use Rattle.tib_difference.specs.Listing.{IsWithinBudget}
 use Rattle.tib_difference.specs.Tries.{tries_at, choices_at, states_in, remaining, behind_rule}
 use Rattle.tib_difference.specs.Underway.{IsUnderway}
 use Rattle.tib_difference.specs.Walks.{IsPrefix, prefixes_of}
-use Rattle.tib_difference.proofs.walk.list_tries.Given as goal
+use Rattle.tib_difference.proofs.walk.list_prefixes.Given as goal
 
 abbrev pub invariant-loop-turn : goal.invariant-loop-turn
 invariant-loop-turn l = record {
