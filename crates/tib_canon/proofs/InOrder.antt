@@ -1,8 +1,8 @@
 -- Sorted lines give a grammar in canonical order.
 use Rattle.tib_cost.specs.Semiring.{most}
-use Rattle.tib_lex.proofs.Lists.{Each-from, Ascends-from, has_mapped, mapped_has}
+use Rattle.tib_lex.proofs.Lists.{Ascends-from, has_mapped, mapped_has}
 use Rattle.tib_cost.specs.declared.Scale.{Scale}
-use Rattle.std.proofs.Common.{◌≡◌, ℕ, ◌<◌, ◌≤◌, List, [], ◌∷◌, length, map, get_or, refl, ap, sym, ◌∙◌, subst, arith, suc, inl, inr, ◌⊎◌}
+use Rattle.std.proofs.Common.{◌≡◌, ℕ, ◌<◌, ◌≤◌, List, [], ◌∷◌, length, map, get_or, refl, ap, sym, ◌∙◌, subst, arith, inl, inr, ◌⊎◌}
 use Rattle.std.specs.Prelude.{IsPermutation, IsSorted}
 use Rattle.std.specs.Ordering.{nat_cmp, ordering_then}
 use Rattle.std.specs.Cmp.Lexicographic.{slice_cmp}
@@ -19,7 +19,8 @@ use Rattle.tib_canon.specs.Lines.{IsLineAt}
 use Rattle.tib_canon.specs.Merging.{AreCheapest}
 use Rattle.tib_canon.specs.declared.lines.Line.{Line}
 use Rattle.tib_canon.proofs.Permuting.{has_permuted, distinct_permuted, distinct_at}
-use Rattle.tib_canon.proofs.Sorting.{text_cmp, line_cmp, sorted_apart}
+use Rattle.tib_canon.specs.LineOrder.{text_cmp, line_cmp}
+use Rattle.tib_canon.proofs.Sorting.{sorted_apart}
 use Rattle.tib_canon.proofs.Telling.{IsSafe, told_by_line}
 use Rattle.tib_lex.proofs.Members.{has_at, at_has, each_has}
 

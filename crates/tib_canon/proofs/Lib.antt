@@ -4,6 +4,7 @@ pub mod StateNames
 pub mod Telling
 pub mod Permuting
 pub mod Pieces
+pub mod ByBytes
 pub mod Sorting
 pub mod InOrder
 pub mod Within

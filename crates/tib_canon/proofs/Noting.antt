@@ -1,15 +1,13 @@
 -- Sides in a table that tests them item by item.
-use Rattle.std.proofs.Common.{◌≡◌, ℕ, ◌+◌, ◌<◌, List, [], ◌∷◌, ◌++◌, length, map, get_or, Bool, true, false, not, cond, ◌||◌, refl, suc, arith, ap, sym, ◌∙◌, subst, true≢false, inl, inr, ◌⊎◌}
+use Rattle.std.proofs.Common.{◌≡◌, ℕ, ◌+◌, ◌<◌, List, [], ◌∷◌, ◌++◌, length, map, get_or, Bool, true, false, not, cond, refl, suc, arith, ap, sym, ◌∙◌, subst, true≢false, inl, inr}
 use Rattle.std.specs.Prelude.{nat_eq, ◌&&◌, if◌then◌else◌}
 use Rattle.std.specs.List.{list_any, position_or_len}
 use Rattle.std.specs.Cmp.Lexicographic.{pointwise}
 use Rattle.std.proofs.lemmas.List.{map-append}
-use Rattle.std.proofs.lemmas.Bool.Decides.{nat_tests}
 use Rattle.tib_lex.proofs.Numbers.{nat_eq-true, nat_eq-itself}
 use Rattle.tib_lex.proofs.Booleans.{and-true, or-either, or-neither}
 use Rattle.tib_lex.specs.Lists.{Has}
 use Rattle.tib_grammar.specs.declared.Item.{Item}
-use Rattle.tib_grammar.specs.declared.Item.TheVariants.{Label, Hole}
 use Rattle.tib_grammar.proofs.RightSides.{IsItemTest, items_same, items_themselves}
 use Rattle.tib_canon.specs.Merging.{Sides}
 

@@ -1,7 +1,7 @@
 -- Lines one after another in a text.
 use Rattle.tib_lex.proofs.Numbers.{below_cases}
 use Rattle.tib_cost.specs.declared.Scale.{Scale}
-use Rattle.std.proofs.Common.{◌≡◌, ℕ, ◌+◌, ◌-◌, ◌<◌, ◌≤◌, List, [], ◌∷◌, ◌++◌, length, take, drop, map, get_or, refl, ap, sym, ◌∙◌, subst, arith, zero, suc, inl, inr, ◌⊎◌, append-nil, append_assoc, length-append}
+use Rattle.std.proofs.Common.{◌≡◌, ℕ, ◌+◌, ◌-◌, ◌<◌, ◌≤◌, List, [], ◌∷◌, ◌++◌, length, take, drop, map, get_or, refl, ap, sym, ◌∙◌, subst, arith, zero, suc, inl, inr, append-nil, append_assoc, length-append}
 use Rattle.std.proofs.lemmas.List.{length-map, get_or-map, get_or_append_left, map-append, take-append-le, take-append-drop, drop_more, take_more}
 use Rattle.std.proofs.Math.Seq.{get_or-append_seam, take-length, take-suc, drop-append_seam}
 use Rattle.tib_lex.specs.Lists.{Each}

@@ -16,7 +16,7 @@ use Rattle.tib_grammar.specs.StateName.{AreStateNames}
 use Rattle.tib_grammar.proofs.Below.{below_has}
 use Rattle.tib_grammar_file.proofs.PrintedStates.{contains_has, all_added, place, placed}
 use Rattle.tib_transducer.specs.NamedPairs.{named_pair}
-use Rattle.tib_transducer.specs.Range.{IsWithin, AreWithin, EndsInHoles, EndInHoles}
+use Rattle.tib_transducer.specs.Range.{IsWithin, AreWithin, EndsInHoles}
 use Rattle.tib_transducer.specs.Rules.{transducer_rule, no_rule, states_in}
 use Rattle.tib_transducer.specs.Series.{IsTransducerSeriesAt, IsTransducerSeries}
 use Rattle.tib_transducer.specs.TransducerOf.{TransducerOf}

@@ -32,7 +32,8 @@ use Rattle.tib_transducer_file.proofs.PrintedBytes.{lines_in, transducer_lines}
 use Rattle.tib_canon.specs.Lines.{lines_text}
 use Rattle.tib_canon.specs.declared.lines.Line.{Line}
 use Rattle.tib_canon.proofs.Permuting.{has_permuted, distinct_permuted, distinct_at}
-use Rattle.tib_canon.proofs.Sorting.{text_cmp, line_cmp, sorted_apart}
+use Rattle.tib_canon.specs.LineOrder.{text_cmp, line_cmp}
+use Rattle.tib_canon.proofs.Sorting.{sorted_apart}
 use Rattle.tib_canon.proofs.Within.{distinct_texts}
 use Rattle.tib_canon.specs.TransducerLines.{fed, AreLinesOf, IsMoveLine, up_to}
 use Rattle.tib_canon.specs.Ordered.{move_cmp, AgreeInSides, Differ, IsSortedForm}

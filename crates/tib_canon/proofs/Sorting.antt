@@ -8,22 +8,11 @@ use Rattle.std.specs.declared.cmp.Ordering.{Ordering}
 use Rattle.std.specs.declared.cmp.Ordering.TheVariants.{Less, Equal, Greater}
 use Rattle.std.proofs.lemmas.Cmp.{ranked, on_total, then_total, nat_cmp_total, nat_list_cmp_total}
 use Rattle.std.proofs.lemmas.List.Sorted.{ranks_by, sorted_far}
+use Rattle.tib_canon.specs.LineOrder.{text_cmp, line_cmp, lines_total_order}
 use Rattle.tib_canon.specs.declared.lines.Line.{Line}
-
--- lines by their left states and texts
-abbrev pub text_cmp : Line → Line → Ordering
-text_cmp x y = ordering_then (nat_cmp x.left y.left) (slice_cmp nat_cmp x.text.now y.text.now)
-
--- and last by their positions
-abbrev pub line_cmp : Line → Line → Ordering
-line_cmp x y = ordering_then (nat_cmp x.left y.left) (ordering_then (slice_cmp nat_cmp x.text.now y.text.now) (nat_cmp x.position y.position))
 
 text_total : IsTotalOrder text_cmp
 text_total = then_total (on_total (λ (x : Line). x.left) nat_cmp_total) (on_total (λ (x : Line). x.text.now) nat_list_cmp_total)
-
-line_total : IsTotalOrder line_cmp
-line_total =
-    then_total (on_total (λ (x : Line). x.left) nat_cmp_total) (then_total (on_total (λ (x : Line). x.text.now) nat_list_cmp_total) (on_total (λ (x : Line). x.position) nat_cmp_total))
 
 pub turned : (o : Ordering) → Greater ≡ ordering_reverse o → o ≡ Less
 turned Less e = refl
@@ -67,4 +56,4 @@ in_turn x y h = by (text_cmp x y) refl
 
 pub sorted_apart : (lines : List Line) (i j : ℕ) (d : Line) → IsSorted line_cmp lines → i ≤ j → j < length lines → let x = get_or lines i d in let y = get_or lines j d in (text_cmp x y ≡ Less) ⊎ ((x.left ≡ y.left) × (x.text.now ≡ y.text.now))
 sorted_apart lines i j d s h k =
-    in_turn (get_or lines i d) (get_or lines j d) (sorted_far (λ x y. is_lt (line_cmp x y)) (ranks_by line_total (λ x. x)) lines s i j d h k)
+    in_turn (get_or lines i d) (get_or lines j d) (sorted_far (λ x y. is_lt (line_cmp x y)) (ranks_by lines_total_order (λ x. x)) lines s i j d h k)

@@ -8,7 +8,7 @@ use Rattle.std.proofs.lemmas.Option.{slice_get-get_or}
 use Rattle.tib_lex.specs.Grammar.{Word, HasWords}
 use Rattle.tib_lex.specs.Lists.{Distinct}
 use Rattle.tib_tree.specs.Trees.{Tree, Trees, none, tree, only, relabel}
-use Rattle.tib_grammar.specs.Sides.{Symbol, label, hole, symbol_map, side_map}
+use Rattle.tib_grammar.specs.Sides.{Symbol, symbol_map, side_map}
 use Rattle.tib_grammar.specs.GrammarOf.{named_rule}
 use Rattle.tib_grammar.specs.StateName.{AreStateNames}
 use Rattle.tib_grammar.specs.declared.Rule.{Rule}

@@ -1,9 +1,9 @@
 -- Bytes are the text of at most one transducer over one table of distinct labels, however many
 -- nodes its sides have.
 use Rattle.tib_cost.specs.declared.Scale.{Scale}
-use Rattle.std.proofs.Common.{◌≡◌, ℕ, ◌++◌, inl, inr, List, [], ◌∷◌, length, length-append, refl, ap, sym, ◌∙◌, arith, false}
+use Rattle.std.proofs.Common.{◌≡◌, ℕ, inl, inr, List, [], ◌∷◌, length, length-append, ap, sym, ◌∙◌, arith, false}
 use Rattle.std.specs.Prelude.{Result, Ok}
-use Rattle.tib_lex.specs.Grammar.{Word, name, HasWords}
+use Rattle.tib_lex.specs.Grammar.{name, HasWords}
 use Rattle.tib_lex.specs.Lines.{lines_of}
 use Rattle.tib_lex.specs.Lists.{Distinct}
 use Rattle.tib_lex.specs.declared.fault.FaultKind.{FaultKind}
@@ -22,7 +22,6 @@ use Rattle.tib_transducer.specs.declared.Variable.{Variable}
 use Rattle.tib_transducer.specs.declared.Pair.{Pair}
 use Rattle.tib_transducer.specs.declared.TransducerRule.{TransducerRule}
 use Rattle.tib_transducer_file.specs.ByText.{AgreeOnLeft, AgreeOnRight}
-use Rattle.tib_transducer_file.specs.Pieces.{Piece}
 use Rattle.tib_transducer_file.specs.Rule.{Parts, RuleLine, rule_line_of, parts_of, numbers_in, is_twice}
 use Rattle.tib_transducer_file.specs.TransducerText.{SpellsLine, HaveRules, HaveStart, TransducerText}
 use Rattle.tib_transducer_file.specs.Value.{IsRule, states_of}

@@ -1,7 +1,7 @@
 -- Grammars with the same rules have one canonical form.
 use Rattle.tib_grammar.proofs.Below.{below_front, below_back}
 use Rattle.tib_cost.specs.declared.Scale.{Scale}
-use Rattle.std.proofs.Common.{◌≡◌, ℕ, ◌<◌, List, [], ◌∷◌, ◌++◌, length, get_or, refl, ap, sym, ◌∙◌, subst, arith, zero, suc, inl, inr}
+use Rattle.std.proofs.Common.{◌≡◌, ℕ, ◌<◌, List, [], ◌∷◌, length, get_or, refl, ap, sym, ◌∙◌, subst, arith, zero, suc, inl, inr}
 use Rattle.std.proofs.lemmas.List.{length-map, get_or-map}
 use Rattle.tib_lex.specs.Lists.{Has, Ascends}
 use Rattle.tib_tree.specs.Trees.{Trees, none, tree, only, relabel}

@@ -23,7 +23,7 @@ use Rattle.tib_canon.specs.Merging.{AreCheapest}
 use Rattle.tib_canon.specs.declared.lines.Line.{Line}
 use Rattle.tib_canon.proofs.StateNames.{length-names_of}
 use Rattle.tib_canon.proofs.Permuting.{has_permuted}
-use Rattle.tib_canon.proofs.Sorting.{line_cmp}
+use Rattle.tib_canon.specs.LineOrder.{line_cmp}
 use Rattle.tib_canon.proofs.Telling.{IsSafe}
 use Rattle.tib_canon.proofs.LinesText.{lines_grammar}
 use Rattle.tib_canon.proofs.InOrder.{AreSorted, cheapest_permuted, kept, in_order}

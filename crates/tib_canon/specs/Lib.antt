@@ -1,5 +1,6 @@
 pub mod Canonical
 pub mod Merging
+pub mod LineOrder
 pub mod Lines
 pub mod Keys
 pub mod TrimmedForms

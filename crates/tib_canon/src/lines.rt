@@ -1,13 +1,18 @@
 // The lines of rules.
 ghost use Rattle.tib_cost.specs.declared.Scale.{Scale};
-ghost use Rattle.std.specs.Prelude.{◌≡◌, ◌++◌, ◌-◌, ◌<◌, ◌≤◌, ℕ, List, Bool, length, map, take, drop, IfOk};
+ghost use Rattle.std.specs.Prelude.{◌≡◌, ◌++◌, ◌-◌, ◌<◌, ◌≤◌, ℕ, List, Bool, length, map, take, drop, IfOk, Some, refl};
+ghost use Rattle.std.specs.Cmp.{partial_equiv_from_equiv};
+ghost use Rattle.std.specs.Cmp.Lexicographic.{slice_cmp};
+ghost use Rattle.std.specs.Ordering.{nat_cmp};
 ghost use Rattle.std.proofs.Common.{get_or};
 ghost use Rattle.tib_lex.specs.Lists.{Each};
 ghost use Rattle.tib_grammar.specs.Run.{rule_at};
 ghost use Rattle.tib_grammar_file.specs.Printed.{IsRuleWithin, rule_text};
+ghost use Rattle.tib_canon.specs.LineOrder.{line_cmp, lines_partial_order, lines_tie, lines_total_order, same_equiv, same_line};
 ghost use Rattle.tib_canon.specs.Lines.{IsLineAt, AreTexts};
 
 use std::alloc::{AllocError, Global};
+use std::cmp::Ordering;
 use tib_cost::Semiring;
 use tib_grammar::{Names, Rule};
 use tib_grammar_file::print_rule;
@@ -15,7 +20,7 @@ use tib_io::{Failed, GrowingSink};
 use tib_tree::Labels;
 
 /// What the rule at a position is ordered by: its left state, its line, and the position itself.
-#[derive(PartialEq, Eq, PartialOrd, Ord, Drop)]
+#[derive(Drop)]
 pub struct Line<'a> {
     /// The left state.
     pub left: u32,
@@ -23,6 +28,68 @@ pub struct Line<'a> {
     pub text: &'a [u8],
     /// Where the rule is.
     pub position: u32,
+}
+
+// The order of two texts, byte by byte. Most lines differ within a few bytes, for which this takes
+// a fraction of the steps of the order of slices.
+fn compare_texts(one: &[u8], two: &[u8]) -> Ordering
+    ensures { result ≡ slice_cmp nat_cmp one.now two.now }
+{
+    let mut place = 0;
+    while place < one.len() && place < two.len() {
+        let order = one[place].cmp(&two[place]);
+        if order != Ordering::Equal {
+            return order;
+        }
+        place += 1;
+    }
+    one.len().cmp(&two.len())
+}
+
+impl<'a> PartialEq for Line<'a> {
+    ghost eq = { same_line };
+
+    ghost laws = { partial_equiv_from_equiv same_equiv };
+
+    fn eq(&self, other: &Line<'a>) -> bool {
+        self.left == other.left && (self.text == other.text && self.position == other.position)
+    }
+}
+
+impl<'a> Eq for Line<'a> {
+    ghost laws = { same_equiv };
+}
+
+impl<'a> PartialOrd for Line<'a> {
+    ghost partial_cmp = { λ x y. Some (line_cmp x y) };
+
+    ghost laws = { lines_partial_order };
+
+    fn partial_cmp(&self, other: &Line<'a>) -> Option<Ordering> {
+        Some(self.cmp(other))
+    }
+}
+
+impl<'a> Ord for Line<'a> {
+    ghost cmp = { λ x y. line_cmp x y };
+
+    ghost total = { lines_total_order };
+
+    ghost matches_partial_cmp = { λ x y. refl };
+
+    ghost matches_eq = { lines_tie };
+
+    fn cmp(&self, other: &Line<'a>) -> Ordering {
+        match self.left.cmp(&other.left) {
+            Ordering::Less => Ordering::Less,
+            Ordering::Equal => match compare_texts(self.text, other.text) {
+                Ordering::Less => Ordering::Less,
+                Ordering::Equal => self.position.cmp(&other.position),
+                Ordering::Greater => Ordering::Greater,
+            },
+            Ordering::Greater => Ordering::Greater,
+        }
+    }
 }
 
 /// The lines of some rules, one after another.

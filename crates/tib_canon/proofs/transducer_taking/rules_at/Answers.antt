@@ -1,4 +1,4 @@
-use Rattle.std.proofs.Common.{◌≡◌, ◌<◌, length, arith}
+use Rattle.std.proofs.Common.{◌≡◌, length, arith}
 use Rattle.tib_canon.proofs.TransducerPlaces.{in_place}
 use Rattle.tib_canon.proofs.transducer_taking.rules_at.Goals as goal
 
