@@ -1,6 +1,6 @@
 -- What several workers gathered is a whole round; where rows leave an item too little, no reached
 -- set is within the limit.
-use Rattle.std.proofs.Common.{◌≡◌, ◌⊎◌, inl, inr, ℕ, zero, suc, ◌+◌, ◌-◌, ◌<◌, ◌≤◌, List, [], ◌∷◌, ◌++◌, Option, Some, None, length, map, take, get_or, slice_get, length-append, append_assoc, append-nil, refl, sym, ap, subst, ◌∙◌, arith}
+use Rattle.std.proofs.Common.{◌≡◌, ◌⊎◌, inl, inr, ℕ, zero, suc, ◌+◌, ◌-◌, ◌<◌, ◌≤◌, Bool, true, List, [], ◌∷◌, ◌++◌, Option, Some, None, length, map, take, get_or, slice_get, length-append, append_assoc, append-nil, refl, sym, ap, subst, ◌∙◌, arith}
 use Rattle.std.specs.Prelude.{slice_index_or}
 use Rattle.tib_lex.specs.Lists.{Has, Distinct, Along, total}
 use Rattle.tib_lex.proofs.Lists.{total_append}
@@ -16,12 +16,14 @@ use Rattle.tib_expand.specs.Reading.{Reading}
 use Rattle.tib_hunt.specs.Known.{NameEnds}
 use Rattle.tib_hunt.specs.declared.lookups.Ruled.{Ruled}
 use Rattle.tib_hunt.specs.Held.{IsBetween, edges_so_far}
+use Rattle.tib_hunt.specs.RoundLaw.{IsLackedAt, IsOutcome}
 use Rattle.tib_hunt.specs.Shelved.{IsKnownRow, edges_of_rows, AreWorked, AreApart}
 use Rattle.tib_hunt.specs.Jobs.{items_in, IsLackedEnd, GivesEdges, ItemExceeds}
 use Rattle.tib_expand.proofs.Reaching.{Laws, later, later_is, fewer_parts, more_parts}
 use Rattle.tib_hunt.proofs.Holding.{leads_on}
 use Rattle.tib_expand.proofs.Members.{Lists-parts, Lists-to, total_fewer}
 use Rattle.tib_hunt.proofs.OnShelves.{got_has}
+use Rattle.tib_hunt.proofs.WrittenRuns.{written_down}
 use Rattle.tib_hunt.proofs.KnownEnds.{named_of, split_named, split_either}
 
 module _ {K : Type 0} where
@@ -131,6 +133,18 @@ module _ {P K O E R T : Type 0} (of : P → Exploration K O E) (reading : Readin
     -- the order has none of the keys on the shelves
     pub gathered_apart : (lists : List (List K)) → lists ≡ shelves → AreApart order lists
     gathered_apart lists same = subst (AreApart order) (sym same) (λ shelf k h. let n = place_of (on shelves shelf) k h in (are.held shelf n.0 k n.1).0.1)
+
+    -- the shelves are what a complete run leaves that files an item for each row
+    pub gathered_run : (eq : K → K → Bool) → ((x y : K) → eq x y ≡ true → x ≡ y) → ((x : K) → eq x x ≡ true) → first ≤ length order → (lists : List (List K)) → lists ≡ shelves
+        → IsOutcome eq shelf_of first (length order - first) (IsLackedAt p order) lists (length rows)
+    gathered_run eq equal self low lists is = subst (λ (l : List (List K)). IsOutcome eq shelf_of first (length order - first) (IsLackedAt p order) l (length rows)) (sym is)
+        (written_down eq equal self shelf_of first (length order - first) (IsLackedAt p order) shelves (length rows) are.sixteen whole
+        (λ shelf k h. let n = place_of (on shelves shelf) k h in let w = are.held shelf n.0 k n.1 in (w.1, (w.0.0.0, w.0.0.1, (w.0.0.2, w.0.1))))
+        (λ shelf. once_at (on shelves shelf) (λ s t k e f. (are.numbering.one_number shelf s shelf t k e f).1))
+        (λ i k a l e. elim (end_at shelves 0 (i - first) i rows gathered (omega arith) (omega arith) k e.0) [
+          | inl m ↦ absurd (e.1 m)
+          | inr n ↦ (let w = are.held n.0.shelf n.0.place k n.1 in subst (λ (s : ℕ). Has (on shelves s) k) (sym w.1) (got_has (on shelves n.0.shelf) n.0.place k n.1))
+        ]))
 
     -- the rows that were gathered are those of a whole round
     pub gathered_whole : (admits : K → Type 0) (rules : List T) (was limit : ℕ) → IsBetween p admits reading first order rules was limit → (made : ℕ) → made ≡ parts_in rows → parts_in rows ≤ limit - was

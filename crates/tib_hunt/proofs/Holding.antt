@@ -1,10 +1,8 @@
 -- What holds while an operation is hunted, and its steps.
-use Rattle.std.proofs.Common.{◌≡◌, ◌⊎◌, inl, inr, ℕ, zero, suc, ◌+◌, ◌-◌, ◌<◌, ◌≤◌, Bool, true, false, Some, List, [], ◌∷◌, ◌++◌, length, map, slice_get, slice_index, slice_index_or, length-append, append_assoc, append-nil, ◌||◌, ◌↔◌, if◌then◌else◌, refl, sym, ap, subst, ◌∙◌, true≢false, arith}
-use Rattle.std.specs.List.{list_any}
+use Rattle.std.proofs.Common.{◌≡◌, ◌⊎◌, inl, inr, ℕ, zero, suc, ◌+◌, ◌-◌, ◌<◌, ◌≤◌, Bool, Some, List, [], ◌∷◌, ◌++◌, length, map, slice_get, slice_index, slice_index_or, length-append, append_assoc, append-nil, ◌↔◌, refl, sym, ap, subst, ◌∙◌, arith}
 use Rattle.std.proofs.lemmas.Bool.{cases_lt}
 use Rattle.std.proofs.lemmas.Option.{get_or_from_slice_get, slice_get_within}
 use Rattle.std.specs.declared.cmp.Ordering.{Ordering}
-use Rattle.indexmap.specs.IndexSet.{insert_key, insert_all}
 use Rattle.tib_lex.specs.Lists.{Has, Each, Distinct, total}
 use Rattle.tib_expand.specs.EdgeLists.{AreListed, IsWithin, position_of, key_at}
 use Rattle.tib_expand.specs.Reached.{Exploration, IsNew, AfterRounds, IsReached, Leads}

@@ -7,6 +7,8 @@ mod Advancing
 mod Finding
 mod OnShelves
 mod Underway
+mod WrittenRuns
+mod Outcomes
 mod Taken
 mod KnownEnds
 mod KnownPlaces

@@ -1,4 +1,5 @@
--- Every complete run of a round numbers just the ends of its items, each once.
+-- Every complete run of a round numbers just those ends of its items that may be numbered, each
+-- once.
 use Rattle.std.proofs.Common.{◌≡◌, ◌≢◌, ◌⊎◌, inl, inr, ⊎_elim, ℕ, zero, suc, ◌+◌, ◌<◌, ◌≤◌, Bool, true, false, true≢false, ◌||◌, List, [], ◌∷◌, ◌++◌, length, set, Some, None, replicate, refl, sym, ap, ◌∙◌, subst, arith, length-set, get_or-set_same, get_or-set_other}
 use Rattle.std.specs.Prelude.{if◌then◌else◌, nat_lt}
 use Rattle.std.specs.List.{list_any}
@@ -12,7 +13,7 @@ use Rattle.tib_hunt.specs.declared.event.Event.{Event}
 use Rattle.tib_hunt.specs.declared.event.Event.TheVariants.{Draw, Number, File}
 use Rattle.tib_hunt.specs.RoundModel.{Core, opened, IsItem, with_key, Allowed, after, Runs, put_item, draws}
 use Rattle.tib_hunt.specs.Shelved.{with_keys}
-use Rattle.tib_hunt.specs.RoundLaw.{numbers_from, IsKept, IsEndOf, EveryRun, TwoRuns}
+use Rattle.tib_hunt.specs.RoundLaw.{numbers_from, IsKept, EveryRun, TwoRuns}
 use Rattle.tib_lex.proofs.Members.{has_left}
 
 module _ {A : Type 0} where
@@ -97,7 +98,8 @@ module _ {K : Type 0} (eq : K → K → Bool) (same : (x y : K) → eq x y ≡ t
         (λ e. subst (λ (i : ℕ). F i (on (set s.shelves (shelf k) ks) i)) (sym e) (subst (F (shelf k)) (sym (get_or-set_same s.shelves (shelf k) ks [] (let l = low k in omega arith))) here))
         (λ n. subst (F j) (sym (get_or-set_other s.shelves (shelf k) j ks [] n)) (apart n))
 
-    more_drawn : (s : Core K) (n : ℕ) → s.drawn ≤ n → n ≤ count → Kept s → Kept (record { drawn = n; shelves = s.shelves; filed = s.filed })
+    -- it is kept where more items are drawn
+    pub more_drawn : (s : Core K) (n : ℕ) → s.drawn ≤ n → n ≤ count → Kept s → Kept (record { drawn = n; shelves = s.shelves; filed = s.filed })
     more_drawn s n low few c = record {
       wide = c.wide;
       few = few;
@@ -194,12 +196,9 @@ module _ {K : Type 0} (eq : K → K → Bool) (same : (x y : K) → eq x y ≡ t
         let z : first + 0 ≡ first = omega arith in
         d.2 ∙ (λ i. numbers_from (z i) (e i))
 
-  module _ (shelf : K → ℕ) (low : (k : K) → shelf k < 16) (first count : ℕ) {O E : Type 0} (edge : ℕ → O → E → Type 0) (ends : E → List K) where
-    abbrev is_end : ℕ → K → Type 0
-    is_end = IsEndOf eq shelf first count edge ends
-
+  module _ (shelf : K → ℕ) (low : (k : K) → shelf k < 16) (first count : ℕ) {O E : Type 0} (edge : ℕ → O → E → Type 0) (is_end : ℕ → K → Type 0) where
     -- what holds after every complete run
-    pub every_run : EveryRun eq shelf first count edge ends
+    pub every_run : EveryRun eq shelf first count edge is_end
     every_run es t (r, (all, done)) =
         let c = kept_at_end shelf low first count is_end es t r in
         let item : (i : ℕ) → Has t.filed i → IsItem first count i = λ i h. subst (λ (n : ℕ). IsItem first n i) all (c.filed.1 i h) in
@@ -216,7 +215,7 @@ module _ {K : Type 0} (eq : K → K → Bool) (same : (x y : K) → eq x y ≡ t
         }
 
     -- two complete runs leave the same
-    pub two_runs : TwoRuns eq shelf first count edge ends
+    pub two_runs : TwoRuns eq shelf first count edge is_end
     two_runs es fs t u a b =
         let v = every_run es t a in
         let w = every_run fs u b in

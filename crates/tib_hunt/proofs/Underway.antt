@@ -1,5 +1,5 @@
 -- A round over its items: their ends go on the shelves, and their rows name them there.
-use Rattle.std.proofs.Common.{◌≡◌, ◌⊎◌, inl, inr, ⊎_elim, ℕ, zero, suc, ◌+◌, ◌-◌, ◌<◌, ◌≤◌, ◌↔◌, Bool, true, false, Some, None, List, [], ◌∷◌, ◌++◌, Option, length, map, append_assoc, append-nil, if◌then◌else◌, nat_lt, refl, sym, ap, subst, ◌∙◌, arith}
+use Rattle.std.proofs.Common.{◌≡◌, ◌⊎◌, inl, inr, ⊎_elim, ℕ, zero, suc, ◌+◌, ◌-◌, ◌<◌, ◌≤◌, ◌↔◌, Bool, true, false, Some, None, List, [], ◌∷◌, ◌++◌, Option, length, map, length-append, append_assoc, append-nil, if◌then◌else◌, nat_lt, refl, sym, ap, subst, ◌∙◌, arith}
 use Rattle.std.specs.declared.cmp.Ordering.{Ordering}
 use Rattle.std.specs.List.{list_any}
 use Rattle.std.proofs.lemmas.Bool.{cases_lt}
@@ -153,6 +153,7 @@ module _ {K O E R T : Type 0} {p : Exploration K O E} {admits : K → Type 0} {r
     only_filed = λ i h. absurd h;
     from = omega arith;
     drawn = omega arith;
+    one_each = omega arith;
     sights = [];
     named = tt;
     edges = λ d front a. subst (AreEdges p order first) (sym (append-nil front)) a;
@@ -175,6 +176,7 @@ module _ {K O E R T : Type 0} {p : Exploration K O E} {admits : K → Type 0} {r
           only_filed = u.only_filed;
           from = u.from;
           drawn = (let d = u.drawn in omega arith);
+          one_each = u.one_each;
           sights = u.sights;
           named = u.named;
           edges = u.edges;
@@ -247,6 +249,7 @@ module _ {K O E R T : Type 0} {p : Exploration K O E} {admits : K → Type 0} {r
             only_filed = λ i h. ⊎_elim (λ a. let l = u.only_filed i (subst (λ (l : List ℕ). Has l i) c.filed a) in omega arith) (λ (e : n ≡ i). omega arith) (has_snoc (with_keys eq shelf_of s w.ends).filed n i (subst (λ (x : Core K). Has x.filed i) w.core_is h));
             from = (let f = u.from in omega arith);
             drawn = (let e = ap (λ (x : Core K). x.drawn) w.core_is ∙ c.drawn in omega arith);
+            one_each = (let e = ap length w.rows_are ∙ length-append rows (w.row ∷ []) in let o = u.one_each in omega arith);
             sights = u.sights ++ w.ends ∷ [];
             named = subst (λ (l : List (ItemRow (Ruled R))). Along (IsShelvedRow reading.places (length order) t.shelves) (u.sights ++ w.ends ∷ []) l) (sym w.rows_are)
                 (along_snoc (IsShelvedRow reading.places (length order) t.shelves) u.sights rows w.ends w.row

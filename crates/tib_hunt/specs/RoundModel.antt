@@ -1,4 +1,5 @@
--- The core of one round: a machine over events, each an atomic action of one worker.
+-- The core of one round: a machine over events, each an atomic action of one worker. Only some of
+-- the ends of an item may be numbered: several workers number those that the order lacks.
 use Rattle.std.specs.Prelude.{◌≡◌, ℕ, ◌+◌, ◌<◌, ◌≤◌, Bool, if◌then◌else◌, nat_lt, List, [], ◌∷◌, ◌++◌, slice_set, replicate, Option, Some, None}
 use Rattle.tib_lex.specs.Lists.{Has}
 use Rattle.indexmap.specs.IndexSet.{insert_key}
@@ -41,8 +42,8 @@ abbrev pub put_item : Option ℕ → List ℕ → List ℕ
 put_item None is = is
 put_item (Some i) is = i ∷ is
 
--- A round of `count` items from `first` on; `is_end i k` says that an edge of the item i ends at
--- the key k.
+-- A round of `count` items from `first` on; `is_end i k` says that the key k is an end of the item
+-- i that is numbered.
 module _ {K : Type 0} (eq : K → K → Bool) (shelf_of : K → ℕ) (first count : ℕ) (is_end : ℕ → K → Type 0) where
   abbrev pub IsDrawn : Core K → ℕ → Type 0
   IsDrawn s i = IsItem first s.drawn i
@@ -51,8 +52,8 @@ module _ {K : Type 0} (eq : K → K → Bool) (shelf_of : K → ℕ) (first coun
   abbrev pub IsShelved : Core K → K → Type 0
   IsShelved s k = Has (on s.shelves (shelf_of k)) k
 
-  -- a key may be numbered that is an end of a drawn item; a drawn item may be filed once, as soon
-  -- as all its ends are numbered
+  -- a key may be numbered that is such an end of a drawn item; a drawn item may be filed once, as
+  -- soon as all these ends of it are numbered
   abbrev pub Allowed : Core K → Event K → Type 0
   Allowed s Draw = Unit {0}
   Allowed s (Number k) = (i : ℕ) × IsDrawn s i × is_end i k

@@ -76,6 +76,7 @@ module _ {K O E R T : Type 0} (p : Exploration K O E) (reading : Reading K E R T
     pub only_filed : (i : ℕ) → Has s.filed i → i < n
     pub from : first ≤ n
     pub drawn : n ≤ first + s.drawn
+    pub one_each : first + length rows ≡ n
     pub sights : List (List K)
     pub named : Along (IsShelvedRow reading.places (length order) s.shelves) sights rows
     pub edges : (d : K) (front : List E) → AreEdges p order first front → AreEdges p order n (front ++ edges_of_rows reading.read_places d order sights rows)

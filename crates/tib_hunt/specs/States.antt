@@ -1,14 +1,16 @@
 -- What the functions of a hunt do to its state.
-use Rattle.std.specs.Prelude.{◌≡◌, ℕ, Bool, List, [], ◌∷◌, ◌++◌, length, map}
+use Rattle.std.specs.Prelude.{◌≡◌, ◌↔◌, ℕ, ◌-◌, Bool, List, [], ◌∷◌, ◌++◌, length, map}
 use Rattle.std.specs.declared.cmp.Ordering.{Ordering}
-use Rattle.tib_lex.specs.Lists.{Each, Along}
+use Rattle.tib_lex.specs.Lists.{Has, Each, Along}
+use Rattle.tib_expand.specs.Expanded.{IsEndAt}
 use Rattle.tib_expand.specs.Reached.{Exploration}
 use Rattle.tib_expand.specs.Reading.{Reading}
 use Rattle.tib_hunt.specs.Numbered.{Name, IsInOrder}
 use Rattle.tib_hunt.specs.Rows.{NumberedRow, ReadAs, StayBelow}
 use Rattle.tib_hunt.specs.Held.{IsBetween, IsWithinRound}
 use Rattle.tib_hunt.specs.Known.{AreOn}
-use Rattle.tib_hunt.specs.Shelved.{placed_row, IsWorked, AreWorked, AreApart}
+use Rattle.tib_hunt.specs.RoundLaw.{IsLackedAt, IsOutcome}
+use Rattle.tib_hunt.specs.Shelved.{all_on, placed_row, IsWorked, AreWorked, AreApart}
 use Rattle.tib_hunt.specs.RoundModel.{Core}
 use Rattle.tib_hunt.specs.declared.state.HuntState.{HuntState}
 use Rattle.tib_hunt.specs.declared.state.TakenIn.{TakenIn}
@@ -70,3 +72,22 @@ module _ {K O E R T : Type 0} (p : Exploration K O E) (reading : Reading K E R T
   -- each item of a round was expanded
   abbrev pub WorksRound : List K → ℕ → ℕ → ℕ → Worked K R → Type 0
   WorksRound order first was limit worked = AreWorked p reading shelf_of order first (shelves_of worked) worked.rows.items was worked.parts limit
+
+module _ {K O E R : Type 0} (p : Exploration K O E) (eq : K → K → Bool) (shelf_of : K → ℕ) where
+  -- Some complete run of the core leaves these shelves, and files an item for each row. In it those
+  -- ends are numbered that the order lacks.
+  abbrev pub IsRunOverLacked : List K → ℕ → Worked K R → Type 0
+  IsRunOverLacked order first worked = IsOutcome eq shelf_of first (length order - first) (IsLackedAt p order) (shelves_of worked) (length worked.rows.items)
+
+  -- the same, where all ends are numbered
+  abbrev pub IsRunOverAll : List K → ℕ → Worked K R → Type 0
+  IsRunOverAll order first worked = IsOutcome eq shelf_of first (length order - first) (IsEndAt p order) (shelves_of worked) (length worked.rows.items)
+
+module _ {K O E : Type 0} (p : Exploration K O E) (eq : K → K → Bool) (shelf_of : K → ℕ) where
+  -- The keys that a round appends are those on the shelves after some complete run of its core, in
+  -- which those ends are numbered that the order lacks.
+  abbrev pub AppendsOutcome : List K → ℕ → List K → Type 0
+  AppendsOutcome order first keys =
+      (new : List K) × (shelves : List (List K)) × (keys ≡ order ++ new)
+      × IsOutcome eq shelf_of first (length order - first) (IsLackedAt p order) shelves (length order - first)
+      × ((k : K) → Has new k ↔ Has (all_on shelves) k)

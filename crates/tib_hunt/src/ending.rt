@@ -6,7 +6,7 @@ ghost use Rattle.tib_lex.specs.Lists.{Each, Distinct};
 ghost use Rattle.tib_expand.specs.Reached.{IfTooMany, IsBeyond, most_parts};
 ghost use Rattle.tib_hunt.specs.Numbered.{placed, keys_of};
 ghost use Rattle.tib_hunt.specs.Rows.{IsRowBelow};
-ghost use Rattle.tib_hunt.specs.States.{AreSettled, IsBetweenRounds, WorksRound, HavePositions, LacksAll, rows_in};
+ghost use Rattle.tib_hunt.specs.States.{AreSettled, IsBetweenRounds, AppendsOutcome, WorksRound, HavePositions, LacksAll, rows_in};
 
 use crate::dividing::place_together;
 use crate::placing::place_rows;
@@ -121,6 +121,8 @@ impl<E: Expand> HuntState<E> {
             self.old.keys.keys first self.old.parts limit worked }
         ensures between { OnOk result (IsBetweenRounds (E.hunted problem.now) (E.admits problem.now)
             E.reading (length self.old.keys.keys) limit self.new) }
+        ensures run { OnOk result (AppendsOutcome (E.hunted problem.now) E.Key.eq E.Key.shelf_of
+            self.old.keys.keys first self.new.keys.keys) }
         ensures rows { OnOk result (self.new.rows.items ≡ []) }
         ensures more { IfErr result (IfTooMany limit (IsBeyond (E.hunted problem.now) limit)) }
     {
@@ -161,6 +163,8 @@ impl<E: Expand> HuntState<E> {
         requires apart { LacksAll self.old.keys.keys worked }
         ensures between { OnOk result (IsBetweenRounds (E.hunted problem.now) (E.admits problem.now)
             E.reading (length self.old.keys.keys) limit self.new) }
+        ensures run { OnOk result (AppendsOutcome (E.hunted problem.now) E.Key.eq E.Key.shelf_of
+            self.old.keys.keys first self.new.keys.keys) }
         ensures rows { OnOk result (self.new.rows.items ≡ []) }
         ensures more { IfErr result (IfTooMany limit (IsBeyond (E.hunted problem.now) limit)) }
     {

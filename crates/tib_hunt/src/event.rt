@@ -2,7 +2,8 @@
 
 use tib_table::Number;
 
-/// An event of a round: one atomic action of a worker.
+/// An event of a round: one atomic action of a worker. Not all ends of an item need be numbered:
+/// several workers number those that the order lacks.
 #[derive(Debug, Drop)]
 pub enum Event<K> {
     /// The next item is drawn.

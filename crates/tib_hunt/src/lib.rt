@@ -1,8 +1,8 @@
 //! The reached set of an operation, found round by round. The core of a round is a machine over
 //! events. Every complete run of it leaves the same keys and the same edges, whatever the order of
-//! its events. One worker finds the reached set, or several do; they find the same set whatever the
-//! order of their steps. The crate uses `tib_expand`, which says what is explored, `tib_workers`
-//! and `tib_table`.
+//! its events, and each round makes what such a run leaves. One worker finds the reached set, or
+//! several do; they find the same set whatever the order of their steps. The crate uses
+//! `tib_expand`, which says what is explored, `tib_workers` and `tib_table`.
 #![tactic(auto)]
 
 mod dividing;

@@ -3,7 +3,7 @@
 ghost use Rattle.std.specs.Prelude.{◌≡◌, ◌≤◌, [], length, map, IfErr, OnOk};
 ghost use Rattle.tib_expand.specs.Reached.{IfTooMany, IsBeyond, most_parts};
 ghost use Rattle.tib_hunt.specs.Rows.{numbered};
-ghost use Rattle.tib_hunt.specs.States.{IsBetweenRounds, IsExpanded};
+ghost use Rattle.tib_hunt.specs.States.{IsBetweenRounds, IsExpanded, AppendsOutcome};
 
 use crate::state::HuntState;
 use std::alloc::Global;
@@ -61,6 +61,8 @@ pub(crate) fn round_of_few<E: Expand, G: Gate>(
     requires rows { state.old.rows.items ≡ [] }
     ensures between { OnOk result (IsBetweenRounds (E.hunted problem.now) (E.admits problem.now)
         E.reading (length state.old.keys.keys) limit state.new) }
+    ensures run { OnOk result (AppendsOutcome (E.hunted problem.now) E.Key.eq E.Key.shelf_of
+        state.old.keys.keys first state.new.keys.keys) }
     ensures rows { OnOk result (state.new.rows.items ≡ []) }
     ensures more { IfErr result (IfTooMany limit (IsBeyond (E.hunted problem.now) limit)) }
 {

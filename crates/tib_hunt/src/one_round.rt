@@ -2,7 +2,7 @@
 
 ghost use Rattle.std.specs.Prelude.{◌≡◌, ◌≤◌, [], length, IfErr, OnOk};
 ghost use Rattle.tib_expand.specs.Reached.{IfTooMany, IsBeyond, most_parts};
-ghost use Rattle.tib_hunt.specs.States.{IsBetweenRounds};
+ghost use Rattle.tib_hunt.specs.States.{IsBetweenRounds, AppendsOutcome};
 
 use crate::listed_round::round_of_few;
 use crate::shelved_round::work_round;
@@ -14,8 +14,10 @@ use std::thread::Threads;
 use tib_expand::{Expand, Gate, HuntError};
 
 /// Works the round that begins at the position `first` by one worker, on shelves if it has at least
-/// `many` items, and otherwise on one list. The outcome is the same. `TooMany` only if the reached
-/// set passes the limit, `OutOfMemory` if memory is refused.
+/// `many` items, and otherwise on one list. The outcome is the same: the keys that it appends are
+/// those that a complete run of the core's events leaves in which those ends are numbered that the
+/// order lacks (`run`). `TooMany` only if the reached set passes the limit, `OutOfMemory` if memory
+/// is refused.
 pub(crate) fn round_alone<E: Expand, G: Gate>(
     state: &mut HuntState<E>,
     alloc: Global,
@@ -31,6 +33,8 @@ pub(crate) fn round_alone<E: Expand, G: Gate>(
     requires rows { state.old.rows.items ≡ [] }
     ensures between { OnOk result (IsBetweenRounds (E.hunted problem.now) (E.admits problem.now)
         E.reading (length state.old.keys.keys) limit state.new) }
+    ensures run { OnOk result (AppendsOutcome (E.hunted problem.now) E.Key.eq E.Key.shelf_of
+        state.old.keys.keys first state.new.keys.keys) }
     ensures rows { OnOk result (state.new.rows.items ≡ []) }
     ensures more { IfErr result (IfTooMany limit (IsBeyond (E.hunted problem.now) limit)) }
 {
@@ -45,7 +49,7 @@ pub(crate) fn round_alone<E: Expand, G: Gate>(
 }
 
 /// Works the round that begins at the position `first` by this number of workers, 1 to 16, or a
-/// round of one item by one. Errors are those of `round_alone`.
+/// round of one item by one. The outcome and the errors are those of `round_alone`.
 pub(crate) fn round_together<E: Expand + Sync, G: Gate + Sync, R: Threads + Wait + Sync>(
     rt: &R,
     state: &mut HuntState<E>,
@@ -67,6 +71,8 @@ where
     requires rows { state.old.rows.items ≡ [] }
     ensures between { OnOk result (IsBetweenRounds (E.hunted problem.now) (E.admits problem.now)
         E.reading (length state.old.keys.keys) limit state.new) }
+    ensures run { OnOk result (AppendsOutcome (E.hunted problem.now) E.Key.eq E.Key.shelf_of
+        state.old.keys.keys first state.new.keys.keys) }
     ensures rows { OnOk result (state.new.rows.items ≡ []) }
     ensures more { IfErr result (IfTooMany limit (IsBeyond (E.hunted problem.now) limit)) }
 {

@@ -10,7 +10,7 @@ ghost use Rattle.tib_expand.specs.Reached.{IfTooMany, IsBeyond, most_parts};
 ghost use Rattle.tib_hunt.specs.RoundLaw.{IsKept};
 ghost use Rattle.tib_hunt.specs.RoundModel.{IsItem};
 ghost use Rattle.tib_hunt.specs.Shelved.{all_on, IsTooMuch};
-ghost use Rattle.tib_hunt.specs.States.{WorksItem, WorksRound};
+ghost use Rattle.tib_hunt.specs.States.{WorksItem, WorksRound, IsRunOverAll};
 
 use crate::lookups::Ruled;
 use crate::round::Round;
@@ -101,7 +101,8 @@ fn work_item<'a, 'b, E: Expand, G: Gate>(
 
 /// Works one round: draws the positions of the order from `first` on, expands them, numbers their
 /// ends on shelves, and files them. `TooMany` only if the reached set passes the limit,
-/// `OutOfMemory` if memory is refused.
+/// `OutOfMemory` if memory is refused. What it made is what a complete run of the core's events
+/// leaves in which all ends are numbered (`run`).
 pub(crate) fn work_round<E: Expand, G: Gate>(
     alloc: Global,
     problem: &E,
@@ -116,6 +117,8 @@ pub(crate) fn work_round<E: Expand, G: Gate>(
         (E.admits problem.now) E.reading first order.now rules parts limit }
     ensures worked { IfOk result (WorksRound (E.hunted problem.now) E.reading E.Key.shelf_of
         order.now first parts limit) }
+    ensures run { IfOk result (IsRunOverAll (E.hunted problem.now) E.Key.eq E.Key.shelf_of order.now
+        first) }
     ensures more { IfErr result (IfTooMany limit (IsBeyond (E.hunted problem.now) limit)) }
 {
     let of = RoundOf {

@@ -5,7 +5,7 @@ ghost use Rattle.std.specs.Prelude.{◌≡◌, ◌≤◌, List, IfOk, IfErr};
 ghost use Rattle.tib_workers.specs.Rows.{parts_in};
 ghost use Rattle.tib_hunt.specs.Held.{IsBetween};
 ghost use Rattle.tib_expand.specs.Reached.{IfTooMany, IsBeyond, most_parts};
-ghost use Rattle.tib_hunt.specs.States.{WorksRound, LacksAll};
+ghost use Rattle.tib_hunt.specs.States.{WorksRound, LacksAll, IsRunOverLacked};
 
 use crate::job::JobOf;
 use crate::shelved_round::Worked;
@@ -32,6 +32,11 @@ fn count_parts<T>(rows: &[Row<T>]) -> u64
 /// order has take no turn of a shelf. The caller expands an item again if a worker has too small a
 /// share of what the limit leaves, or is refused memory. Only the caller adds up the parts of all
 /// rows. `TooMany` only if the reached set passes the limit, `OutOfMemory` if memory is refused.
+///
+/// What the workers made is what a complete run of the core's events leaves (`run`). No clause says
+/// that their steps are the events of such a run, in the order in which the machine does them: that
+/// a worker draws an item, numbers those of its ends that the order lacks, and then makes its row,
+/// is seen in the code.
 pub(crate) fn work_together<'x, E: Expand + Sync, G: Gate + Sync, R: Threads + Wait + Sync>(
     rt: &R,
     alloc: Global,
@@ -54,6 +59,8 @@ where
     ensures worked { IfOk result (WorksRound (E.hunted problem.now) E.reading E.Key.shelf_of
         keys.now.keys first parts limit) }
     ensures apart { IfOk result (LacksAll keys.now.keys) }
+    ensures run { IfOk result (IsRunOverLacked (E.hunted problem.now) E.Key.eq E.Key.shelf_of
+        keys.now.keys first) }
     ensures more { IfErr result (IfTooMany limit (IsBeyond (E.hunted problem.now) limit)) }
 {
     let job = JobOf {

@@ -3,6 +3,7 @@ use Rattle.tib_hunt.specs.Rows.{numbered}
 use Rattle.tib_expand.proofs.Reaching.{hunt_of}
 use Rattle.tib_hunt.proofs.Advancing.{few_keys}
 use Rattle.tib_hunt.proofs.Finding.{round_ends_at}
+use Rattle.tib_hunt.proofs.Outcomes.{appended_few}
 use Rattle.tib_hunt.proofs.listed_round.round_of_few.Goals as goal
 
 pub overflow_cast-order : goal.overflow_cast-order
@@ -21,3 +22,9 @@ settle-requires-clause-few g c =
 pub returns-clause-between : goal.returns-clause-between
 returns-clause-between g c = round_ends_at (hunt_of (g.met.E.Expand.lawful c.args.problem.now) g.met.E.Key.Ord.total g.met.E.Key.TableKey.same g.met.E.Key.Eq.laws.refl) c.args.state.now.keys.keys c.expand_few.new.state.keys.keys c.args.first c.expand_few.new.state.rules.items (map numbered c.expand_few.new.state.rows.items) c.expand_few.new.state.parts c.args.limit c.in-Ok.ensures.within
     c.settle.new.self.keys.keys c.settle.new.self.rules.items c.settle.new.self.parts c.len-order.result c.len-order.ensures.len c.in-Ok-settle.ensures.parts c.in-Ok-settle.ensures.settled
+
+pub returns-clause-run : goal.returns-clause-run
+returns-clause-run g c =
+    let s = c.in-Ok-settle.ensures.settled in
+    appended_few (hunt_of (g.met.E.Expand.lawful c.args.problem.now) g.met.E.Key.Ord.total g.met.E.Key.TableKey.same g.met.E.Key.Eq.laws.refl) g.E.Key.TableKey.shelf_of (λ x. g.met.E.Key.TableKey.low x) c.args.state.now.keys.keys c.expand_few.new.state.keys.keys c.args.first c.expand_few.new.state.rules.items (map numbered c.expand_few.new.state.rows.items) c.expand_few.new.state.parts c.args.limit c.in-Ok.ensures.within
+    c.settle.new.self.keys.keys c.len-order.result c.len-order.ensures.len s.0 s.1

@@ -6,6 +6,7 @@ use Rattle.tib_expand.proofs.Reaching.{hunt_of}
 use Rattle.tib_hunt.proofs.Advancing.{few_keys}
 use Rattle.tib_hunt.proofs.Underway.{underway_none, next_under, next_at, next_is, underway_more, more_at, told_much, underway_worked}
 use Rattle.tib_lex.specs.Lists.{total}
+use Rattle.tib_hunt.proofs.Outcomes.{underway_run}
 use Rattle.tib_hunt.proofs.shelved_round.work_round.Goals as goal
 
 pub invariant_of-of : goal.invariant_of-of
@@ -51,5 +52,17 @@ returns-clause-worked g c =
     let t = c.loop-test.false in
     let e : c.loop.counter ≡ length c.args.order.now = omega arith in
     underway_worked (hunt_of (g.met.E.Expand.lawful c.args.problem.now) g.met.E.Key.Ord.total g.met.E.Key.TableKey.same g.met.E.Key.Eq.laws.refl) g.E.Key.TableKey.shelf_of (λ x. g.met.E.Key.TableKey.low x) c.args.order.now c.args.first c.loop.round.core c.loop.work.rows.items c.args.parts c.loop.work.parts c.args.limit
+    (subst (λ n. IsUnderway (g.E.Expand.hunted c.args.problem.now) g.E.Expand.reading g.E.Key.PartialEq.eq g.E.Key.TableKey.shelf_of c.args.order.now c.args.first n c.loop.round.core c.loop.work.rows.items c.args.parts c.loop.work.parts c.args.limit) e u)
+    (map (λ v. v.items) c.in-Ok-close.shelves.items) (sym c.in-Ok-close.ensures)
+
+pub returns-clause-run : goal.returns-clause-run
+returns-clause-run g c =
+    let u = c.loop.invariant.underway in
+    let few = u.kept.few in
+    let drawn = u.drawn in
+    let low = c.requires.between.1.low in
+    let t = c.loop-test.false in
+    let e : c.loop.counter ≡ length c.args.order.now = omega arith in
+    underway_run (hunt_of (g.met.E.Expand.lawful c.args.problem.now) g.met.E.Key.Ord.total g.met.E.Key.TableKey.same g.met.E.Key.Eq.laws.refl) g.E.Key.TableKey.shelf_of (λ x. g.met.E.Key.TableKey.low x) c.args.order.now c.args.first c.loop.round.core c.loop.work.rows.items c.args.parts c.loop.work.parts c.args.limit
     (subst (λ n. IsUnderway (g.E.Expand.hunted c.args.problem.now) g.E.Expand.reading g.E.Key.PartialEq.eq g.E.Key.TableKey.shelf_of c.args.order.now c.args.first n c.loop.round.core c.loop.work.rows.items c.args.parts c.loop.work.parts c.args.limit) e u)
     (map (λ v. v.items) c.in-Ok-close.shelves.items) (sym c.in-Ok-close.ensures)

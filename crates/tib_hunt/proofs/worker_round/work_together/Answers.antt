@@ -2,7 +2,7 @@ use Rattle.std.proofs.Common.{◌∙◌, ap, arith, refl}
 use Rattle.tib_workers.specs.Rows.{parts_in}
 use Rattle.tib_expand.proofs.Reaching.{hunt_of}
 use Rattle.tib_hunt.proofs.Advancing.{few_keys}
-use Rattle.tib_hunt.proofs.GatheredRows.{gathered_whole, gathered_apart, too_little_beyond}
+use Rattle.tib_hunt.proofs.GatheredRows.{gathered_whole, gathered_apart, gathered_run, too_little_beyond}
 use Rattle.tib_hunt.proofs.worker_round.work_together.Goals as goal
 
 pub invariant_of-job : goal.invariant_of-job
@@ -34,3 +34,9 @@ pub returns-in-Err-More-clause-more : goal.returns-in-Err-More-clause-more
 returns-in-Err-More-clause-more g c =
     let h = (hunt_of ((g.met.E.Expand g.world.𝓛 g.world.𝓜 g.world.𝓡 ((λ s x. x), (λ x. x), (λ x. x), λ x. x)).lawful c.args.problem.now) (g.met.E.Key.Ord g.world.𝓛 g.world.𝓜 g.world.𝓡 ((λ s x. x), (λ x. x), (λ x. x), λ x. x)).total (g.met.E.Key.TableKey g.world.𝓛 g.world.𝓜 g.world.𝓡 ((λ s x. x), (λ x. x), (λ x. x), λ x. x)).same (g.met.E.Key.Eq g.world.𝓛 g.world.𝓜 g.world.𝓡 ((λ s x. x), (λ x. x), (λ x. x), λ x. x)).laws.refl) in
     (refl, too_little_beyond g.E.Expand.hunted g.E.Expand.reading c.args.problem.now c.args.keys.now.keys c.args.first h.laws (g.E.Expand.admits c.args.problem.now) c.requires.between.0 c.args.parts c.args.limit c.requires.between.1 (c.in-Err-More.ensures.more c.in-Err-More.field-0-is))
+
+pub returns-clause-run : goal.returns-clause-run
+returns-clause-run g c =
+    let a = c.in-Ok.ensures in
+    gathered_run g.E.Expand.hunted g.E.Expand.reading c.args.problem.now c.args.keys.now.keys c.args.first g.E.Key.TableKey.shelf_of c.in-Ok.gathered.shelves c.in-Ok.gathered.rows.items a.rows a.len a.shelves
+    g.E.Key.PartialEq.eq (λ x y e. (g.met.E.Key.TableKey g.world.𝓛 g.world.𝓜 g.world.𝓡 ((λ s x. x), (λ x. x), (λ x. x), λ x. x)).same x y e) (g.met.E.Key.Eq g.world.𝓛 g.world.𝓜 g.world.𝓡 ((λ s x. x), (λ x. x), (λ x. x), λ x. x)).laws.refl c.requires.between.1.low _ c.in-Ok-into_lists.ensures

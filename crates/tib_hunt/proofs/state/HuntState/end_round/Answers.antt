@@ -6,6 +6,7 @@ use Rattle.tib_hunt.specs.Shelved.{placed_row}
 use Rattle.tib_expand.proofs.Reaching.{hunt_of}
 use Rattle.tib_hunt.proofs.Advancing.{few_keys}
 use Rattle.tib_hunt.proofs.Finding.{fresh_round_ends}
+use Rattle.tib_hunt.proofs.Outcomes.{appended_fresh}
 use Rattle.tib_hunt.proofs.state.HuntState.end_round.Goals as goal
 
 pub take_round-requires-clause-lacked : goal.take_round-requires-clause-lacked
@@ -26,3 +27,9 @@ settle_fresh-requires-clause-below g c = subst (λ o. Each (IsRowBelow g.E.Expan
 pub returns-clause-between : goal.returns-clause-between
 returns-clause-between g c = fresh_round_ends (hunt_of (g.met.E.Expand.lawful c.args.problem.now) g.met.E.Key.Ord.total g.met.E.Key.TableKey.same g.met.E.Key.Eq.laws.refl) c.args.self.now.keys.keys (keys_of c.in-Ok.taken.fresh.items) c.args.first c.take_round.new.self.rules.items (map (placed_row (map (λ v. v.items) c.in-Ok.taken.positions.items)) c.in-Ok.taken.rows.items) c.take_round.new.self.parts c.args.limit c.in-Ok.ensures.within
     c.take_round.new.self.keys.keys c.settle_fresh.new.self.keys.keys c.settle_fresh.new.self.rules.items c.settle_fresh.new.self.parts c.in-Ok.ensures.order c.in-Ok-settle_fresh.ensures.parts c.in-Ok-settle_fresh.ensures.settled
+
+pub returns-clause-run : goal.returns-clause-run
+returns-clause-run g c =
+    let s = c.in-Ok-settle_fresh.ensures.settled in
+    appended_fresh (hunt_of (g.met.E.Expand.lawful c.args.problem.now) g.met.E.Key.Ord.total g.met.E.Key.TableKey.same g.met.E.Key.Eq.laws.refl) g.E.Key.TableKey.shelf_of (λ x. g.met.E.Key.TableKey.low x) c.args.self.now.keys.keys (keys_of c.in-Ok.taken.fresh.items) c.args.first c.take_round.new.self.rules.items (map (placed_row (map (λ v. v.items) c.in-Ok.taken.positions.items)) c.in-Ok.taken.rows.items) c.take_round.new.self.parts c.args.limit c.in-Ok.ensures.within
+    c.take_round.new.self.keys.keys c.settle_fresh.new.self.keys.keys c.in-Ok.ensures.order s.0 s.1
