@@ -1,7 +1,8 @@
 -- A candidate is made, and put into a heap.
 use Rattle.std.specs.Prelude.{◌≡◌, ℕ, ◌+◌, ◌^◌, ◌<◌, ◌≤◌, List, [], ◌∷◌, ◌++◌, length, take, drop, refl, Some, Result, Ok, Err, OnOk}
 use Rattle.std.proofs.Common.{arith, ap, sym, ◌∙◌, subst, inl, inr, length-append}
-use Rattle.tib_lex.specs.Lists.{Has}
+use Rattle.std.proofs.lemmas.List.{length-map}
+use Rattle.tib_lex.specs.Lists.{Has, Distinct}
 use Rattle.tib_lex.proofs.Lists.{append_nil, has_mapped}
 use Rattle.tib_cost.specs.Semiring.{most}
 use Rattle.tib_tree.specs.Trees.{size}
@@ -16,6 +17,7 @@ use Rattle.tib_ranked_trees.specs.declared.lists.Candidate.{Candidate}
 use Rattle.tib_ranked_trees.proofs.Seeing.{last_at}
 use Rattle.tib_lazy_lists.specs.Firsts.{IsMade}
 use Rattle.tib_lazy_lists.specs.Offers.{tuples, order_of, IsHeld, AreMoreCandidates, IsOffered}
+use Rattle.tib_lazy_lists.proofs.Once.{distinct_put}
 use Rattle.tib_lazy_lists.proofs.Kept.{mapped_has, tuples_kept, heap_stays, made_all, sound_kept, more_with, more_same, more_more}
 
 pub on_ok : {T E : Type 0} (r : Result T E) (P Q : Type 0) → (P → Q) → OnOk r P → OnOk r Q
@@ -32,7 +34,7 @@ pub offers_none :
     IsOffered product When x n js heap y heap
 offers_none product When x n js heap held none y e =
     subst (λ (z : ListsOf). IsOffered product When x n js heap z heap) (sym e)
-    (record { held = held; more = more_same x; to = λ z h. h; from = λ z h. inl h; count = omega arith; there = λ w fits. absurd (none w fits) })
+    (record { held = held; more = more_same x; to = λ z h. h; from = λ z h. inl h; count = omega arith; there = λ w fits. absurd (none w fits); once = λ taken new d. d })
 
 abbrev paired : ℕ → List ℕ → pass.Candidate
 paired n js = (n, js)
@@ -87,6 +89,14 @@ module _ (product : ℕ → ℕ → ℕ) (x : ListsOf) (heap : List ℕ) (held :
   same_tuples : tuples y heap ≡ tuples x heap
   same_tuples = tuples_kept product x held.lists x.trees x.lists (x.candidates ++ new ∷ []) x.ranks more heap held.below
 
+  to_now : (now : List ℕ) → Adds heap (length x.candidates) now → (z : pass.Candidate) → Has (tuples x heap) z → Has (tuples y now) z
+  to_now now adds z h =
+      let m = has_mapped (tuple_of y) heap z (subst (λ (zs : List pass.Candidate). Has zs z) (sym same_tuples) h) in
+      subst (λ (w : pass.Candidate). Has (tuples y now) w) m.2 (mapped_has (tuple_of y) now m.0 (adds.to m.0 m.1))
+
+  new_now : (now : List ℕ) → Adds heap (length x.candidates) now → Has (tuples y now) (paired n (ranks_from x n start))
+  new_now now adds = subst (λ (z : pass.Candidate). Has (tuples y now) z) new_tuple (mapped_has (tuple_of y) now (length x.candidates) adds.new)
+
   begins_here : (offer product x.rules (entries_of x) n (ranks_from x n start)).1 ≤ most → Begins product x n (ranks_from x n start) heap y (length x.candidates)
   begins_here fits = record {
     known = λ z h. known_now fits z (older z (held.below z h));
@@ -99,9 +109,7 @@ module _ (product : ℕ → ℕ → ℕ) (x : ListsOf) (heap : List ℕ) (held :
         below = λ m h. elim (adds.from m h) [ inl e ↦ omega (arith, e, there) | inr i ↦ older m (held.below m i) ];
       };
       more = more_here;
-      to = λ z h.
-          let m = has_mapped (tuple_of y) heap z (subst (λ (zs : List pass.Candidate). Has zs z) (sym same_tuples) h) in
-          subst (λ (w : pass.Candidate). Has (tuples y now) w) m.2 (mapped_has (tuple_of y) now m.0 (adds.to m.0 m.1));
+      to = to_now now adds;
       from = λ z h.
           let m = has_mapped (tuple_of y) now z h in
           elim (adds.from m.0 m.1) [
@@ -109,7 +117,9 @@ module _ (product : ℕ → ℕ → ℕ) (x : ListsOf) (heap : List ℕ) (held :
             | inr i ↦ inl (subst (λ (zs : List pass.Candidate). Has zs z) same_tuples (subst (λ (w : pass.Candidate). Has (tuples y heap) w) m.2 (mapped_has (tuple_of y) heap m.0 i)))
           ];
       count = omega (arith, long, bound, length-append x.candidates (new ∷ []));
-      there = λ w f. subst (λ (z : pass.Candidate). Has (tuples y now) z) new_tuple (mapped_has (tuple_of y) now (length x.candidates) adds.new);
+      there = λ w f. new_now now adds;
+      once = λ taken new d.
+          distinct_put (tuples x heap) (tuples y now) taken (paired n (ranks_from x n start)) (to_now now adds) (new_now now adds) (omega (arith, long, length-map now (tuple_of y), length-map heap (tuple_of x))) new d;
     };
   }
 
@@ -178,6 +188,9 @@ module _ (product : ℕ → ℕ → ℕ) (x : ListsOf) (heap : List ℕ) (held :
       ];
       count = o.count;
       there = λ w fits. subst (λ (ks : List ℕ). Has (tuples y now) (n, ks)) put_is (o.there w (subst (λ (ks : List ℕ). (offer product x.rules (entries_of x) n ks).1 ≤ most) (sym put_is) fits));
+      once = λ taken new d.
+          o.once taken (λ h. new (subst (λ (ks : List ℕ). Has (tuples x heap ++ taken) (n, ks)) put_is (subst (λ (zs : List pass.Candidate). Has (zs ++ taken) (n, ranks_from x1 n (length x.ranks))) put_tuples h)))
+          (subst (λ (zs : List pass.Candidate). Distinct (zs ++ taken)) (sym put_tuples) d);
     };
   }
 
@@ -189,4 +202,4 @@ ranks_put product x heap held n js tuple long after e start f =
 
 -- an offer that only counts where there is such an entry
 pub offered_when : (product : ℕ → ℕ → ℕ) (When : Type 0) (x : ListsOf) (n : ℕ) (js heap : List ℕ) (y : ListsOf) (now : List ℕ) → IsOffered product (Unit {0}) x n js heap y now → IsOffered product When x n js heap y now
-offered_when product When x n js heap y now o = record { held = o.held; more = o.more; to = o.to; from = o.from; count = o.count; there = λ w fits. o.there tt fits }
+offered_when product When x n js heap y now o = record { held = o.held; more = o.more; to = o.to; from = o.from; count = o.count; there = λ w fits. o.there tt fits; once = o.once }

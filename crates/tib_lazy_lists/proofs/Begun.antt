@@ -4,8 +4,8 @@ use Rattle.std.proofs.Common.{zero, suc, arith, ap, sym, ◌∙◌, subst, inl, 
 use Rattle.std.proofs.Math.ListN.{set}
 use Rattle.std.proofs.lemmas.List.{length-map, map-set, get_or-set_same, get_or-set_other}
 use Rattle.std.specs.Global.{Vec}
-use Rattle.tib_lex.specs.Lists.{Has}
-use Rattle.tib_lex.proofs.Members.{has_at, has_left, has_right, has_either}
+use Rattle.tib_lex.specs.Lists.{Has, Distinct}
+use Rattle.tib_lex.proofs.Members.{distinct_more, has_at, has_left, has_right, has_either}
 use Rattle.tib_grammar.specs.Run.{rule_at}
 use Rattle.tib_grammar.specs.declared.Rule.{Rule}
 use Rattle.tib_ranked_trees.specs.Best.{Costed}
@@ -54,12 +54,16 @@ rule_put vs q h v w d n r p =
     map-set rules_of vs q w ∙ ap (λ (ms : List ℕ). set (map rules_of vs) q ms) (p ∙ ap (λ (ms : List ℕ). ms ++ n ∷ []) old)
 
 pub by_none : (rules : List (Rule ℕ)) (by_state : List (List ℕ)) → ((q : ℕ) → get_or by_state q [] ≡ []) → AreSomeByState rules 0 by_state
-by_none rules by_state e = record { each = λ m l. absurd (omega (arith, l)); only = λ q m h. absurd (subst (λ (ms : List ℕ). Has ms m) (e q) h) }
+by_none rules by_state e = record {
+  each = λ m l. absurd (omega (arith, l));
+  only = λ q m h. absurd (subst (λ (ms : List ℕ). Has ms m) (e q) h);
+  once = λ q. subst (λ (ms : List ℕ). Distinct ms) (sym (e q)) tt;
+}
 
 pub by_more :
     (rules : List (Rule ℕ)) (n : ℕ) (by_state now : List (List ℕ)) → (rule_at rules n).left < length by_state →
     now ≡ set by_state (rule_at rules n).left (get_or by_state (rule_at rules n).left [] ++ n ∷ []) → AreSomeByState rules n by_state → AreSomeByState rules (n + 1) now
-by_more rules n by_state now inside e b = subst (λ (bs : List (List ℕ)). AreSomeByState rules (n + 1) bs) (sym e) (record { each = each; only = only })
+by_more rules n by_state now inside e b = subst (λ (bs : List (List ℕ)). AreSomeByState rules (n + 1) bs) (sym e) (record { each = each; only = only; once = once })
   where
     here : get_or (set by_state (rule_at rules n).left (get_or by_state (rule_at rules n).left [] ++ n ∷ [])) (rule_at rules n).left [] ≡ get_or by_state (rule_at rules n).left [] ++ n ∷ []
     here = get_or-set_same by_state (rule_at rules n).left (get_or by_state (rule_at rules n).left [] ++ n ∷ []) [] inside
@@ -97,8 +101,17 @@ by_more rules n by_state now inside e b = subst (λ (bs : List (List ℕ)). AreS
           ]
     ]
 
+    once : (q : ℕ) → Distinct (get_or (set by_state (rule_at rules n).left (get_or by_state (rule_at rules n).left [] ++ n ∷ [])) q [])
+    once q = elim (same_or q (rule_at rules n).left) [
+      | inr o ↦ subst (λ (ms : List ℕ). Distinct ms) (sym (there q o)) (b.once q)
+      | inl f ↦
+          subst (λ (p : ℕ). Distinct (get_or (set by_state (rule_at rules n).left (get_or by_state (rule_at rules n).left [] ++ n ∷ [])) p [])) (sym f)
+          (subst (λ (ms : List ℕ). Distinct ms) (sym here)
+          (distinct_more (get_or by_state (rule_at rules n).left []) n (b.once (rule_at rules n).left) (λ h. let k = b.only (rule_at rules n).left n h in omega (arith, k.0))))
+    ]
+
 pub by_all : (rules : List (Rule ℕ)) (n : ℕ) (by_state : List (List ℕ)) → n ≡ length rules → AreSomeByState rules n by_state → AreByState rules by_state
-by_all rules n by_state e b = record { each = λ m l. b.each m (omega (arith, l, e)); only = λ q m h. let k = b.only q m h in (omega (arith, k.0, e), k.1) }
+by_all rules n by_state e b = record { each = λ m l. b.each m (omega (arith, l, e)); only = λ q m h. let k = b.only q m h in (omega (arith, k.0, e), k.1); once = b.once }
 
 -- a state without a tree, and one with its first tree
 
@@ -116,6 +129,7 @@ closed_first product x f q some s e h =
       left = subst (λ (n : ℕ). (rule_at x.rules (candidate_at x n).rule).left ≡ q) (sym e) i.left;
       first = subst (λ (n : ℕ). ranks_of x (candidate_at x n) ≡ zeros (states_of (rule_at x.rules (candidate_at x n).rule))) (sym e) i.first;
       listed = subst (λ (n : ℕ). HasTree (entries_of x q) (tree_by x (candidate_at x n).rule (ranks_of x (candidate_at x n)))) (sym e) listed;
+      few = f.few q;
       empty = h;
     }
 

@@ -12,9 +12,9 @@ use Rattle.tib_lazy_lists.specs.declared.asking.Stage.{Stage}
 use Rattle.tib_lazy_lists.specs.declared.asking.Stage.TheVariants.{Closed, Open, Whole}
 use Rattle.tib_lazy_lists.specs.Offers.{tuples, order_of, AreSound, IsHeld, AreMoreCandidates, AreStarted, HasFollowers}
 use Rattle.tib_lazy_lists.specs.AskingOf.{StateOf}
-use Rattle.tib_lazy_lists.specs.Asks.{ArePreceded, IsClosed, IsOpen, IsState, IsAtStage, IsAskedFor, IsAnswered, AreAnswered, CanTake, IsOpened, turns_at, turns_of}
+use Rattle.tib_lazy_lists.specs.Asks.{AreOnce, ArePreceded, IsClosed, IsOpen, IsState, IsAtStage, IsAskedFor, IsAnswered, AreAnswered, CanTake, IsOpened, turns_at, turns_of}
 use Rattle.tib_lazy_lists.proofs.Kept.{more_of, more_keeps}
-use Rattle.tib_lazy_lists.proofs.Steps.{opened, followed, followed_preceded, followed_waits}
+use Rattle.tib_lazy_lists.proofs.Steps.{opened, followed, followed_preceded, followed_single, followed_waits}
 
 -- a state that can be asked holds a heap
 pub held_of : (product : ℕ → ℕ → ℕ) (k : ℕ) (x : ListsOf) → AreSound product x → (u : ℕ) (s : StateOf) → IsState product k x u s → (s.stage ≡ Whole → ⊥) → IsHeld product x s.heap × (s.last < length x.candidates)
@@ -51,6 +51,9 @@ open_of product k x sound started u rules s can y t o = elim o.how [
               (subst (λ (ms : List ℕ). IsKept product x.rules k (entries_of x) i.older (tuple_of x s.last ∷ i.older) (tuples x ms) u) (sym e) i.kept);
           preceded = subst (λ (n : ℕ). ArePreceded i.older (tuple_of x n ∷ i.older)) (sym o.last) i.preceded;
           waits = subst (λ (ms : List ℕ). ArePreceded i.older (tuples x ms)) (sym e) i.waits;
+          single =
+              subst (λ (n : ℕ). AreOnce product x u (tuple_of x n ∷ i.older) (tuples x t.heap)) (sym o.last)
+              (subst (λ (ms : List ℕ). AreOnce product x u (tuple_of x s.last ∷ i.older) (tuples x ms)) (sym e) i.single);
         })
 
     by : (g : Stage) → s.stage ≡ g → IsAtStage product k x u s g → (s.stage ≡ Closed → ⊥) → t.heap ≡ s.heap → y ≡ x → IsOpen product k y u t
@@ -85,6 +88,7 @@ asked_of product x sound started rules s inside y t o n e z now h k u can =
       kept = followed product k y o.held.lists u t i z now f a;
       preceded = followed_preceded product k y o.held.lists u t i z now f a;
       waits = followed_waits product k y o.held.lists u t i z now f a;
+      single = followed_single product k y o.held.lists u t i z now f a;
     }
 
 -- the stage of a state that was opened

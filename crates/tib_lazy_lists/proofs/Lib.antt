@@ -1,3 +1,4 @@
+pub mod Once
 pub mod Kept
 pub mod Added
 pub mod Followed

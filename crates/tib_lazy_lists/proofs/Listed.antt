@@ -5,16 +5,19 @@ use Rattle.std.proofs.Math.ListN.{set, length-set}
 use Rattle.std.proofs.lemmas.List.{length-map}
 use Rattle.tib_lex.specs.Lists.{Has}
 use Rattle.tib_lex.proofs.Lists.{has_mapped}
-use Rattle.tib_lex.proofs.Members.{at_has, has_right}
+use Rattle.tib_lex.proofs.Members.{at_has, has_right, has_either}
 use Rattle.tib_cost.specs.Semiring.{ProductLaws}
 use Rattle.tib_tree.specs.Trees.{Tree, size, only, most_nodes}
 use Rattle.tib_tree.specs.Growth.{LabelsBelow}
+use Rattle.tib_grammar.specs.Forms.{IsDeterministic}
+use Rattle.tib_grammar.specs.Range.{SidesEndInHoles}
 use Rattle.tib_grammar.specs.Run.{rule_at}
 use Rattle.tib_ranked_trees.specs.Best.{Costed, IsNextAt, HasLarge}
-use Rattle.tib_ranked_trees.specs.Lazy.{IsKept, IsWhole}
+use Rattle.tib_ranked_trees.specs.Lazy.{IsFrom, IsKept, IsWhole}
 use Rattle.tib_ranked_trees.specs.Levels.{IsOrderly, states_at}
 use Rattle.tib_ranked_trees.specs.Pass.{Entries, AreRanks, zeros_at, offer, HasTree}
 use Rattle.tib_ranked_trees.specs.Pass as pass
+use Rattle.tib_ranked_trees.proofs.Apart.{no_duplicates}
 use Rattle.tib_ranked_trees.proofs.Keeping.{keeps}
 use Rattle.tib_ranked_trees.specs.ListsOf.{ListsOf}
 use Rattle.tib_ranked_trees.specs.Seen.{tree_at}
@@ -25,8 +28,9 @@ use Rattle.tib_ranked_trees.proofs.Growing.{tuple_of_kept, tree_kept, entries_ke
 use Rattle.tib_lazy_lists.specs.declared.asking.Stage.{Stage}
 use Rattle.tib_lazy_lists.specs.Offers.{tuples, AreSound}
 use Rattle.tib_lazy_lists.specs.AskingOf.{StateOf, AskingOf, state_at}
-use Rattle.tib_lazy_lists.specs.Asks.{ArePreceded, IsOpen, IsState, IsAtStage, IsAskedFor, IsDrawnFrom, IsTaking, IsAskingBut, IsAsking, IsListing}
+use Rattle.tib_lazy_lists.specs.Asks.{AreOnce, ArePreceded, IsOpen, IsState, IsAtStage, IsAskedFor, IsDrawnFrom, IsTaking, IsAskingBut, IsAsking, IsListing}
 use Rattle.tib_lazy_lists.specs.Demands.{IsPlaced, IsPlacedOnce}
+use Rattle.tib_lazy_lists.proofs.Once.{distinct_across, distinct_moved, from_kept, from_more}
 use Rattle.tib_lazy_lists.proofs.Kept.{made_kept, tuples_kept, heap_stays, same_or}
 use Rattle.tib_lazy_lists.proofs.States.{state_kept}
 use Rattle.tib_lazy_lists.proofs.Taken.{tree_labelled, left_is, is_next}
@@ -36,7 +40,8 @@ use Rattle.tib_lazy_lists.proofs.Grown.{HasNew, same_entries, more_trees, sound_
 module _ (product : ℕ → ℕ → ℕ) (k : ℕ) (x : ListsOf) (s : AreSound product x) (ts : List (Tree ℕ)) (ls : List (List Entry)) (more : AreMore x ts ls x.candidates x.ranks)
     (carry : (older taken held : List pass.Candidate) (u : ℕ) → IsKept product x.rules k (entries_of x) older taken held u → IsKept product x.rules k (entries_of (grown x ts ls x.candidates x.ranks)) older taken held u) (u : ℕ)
     (waited : List ℕ) (asked : IsAskedFor product k x u waited) (st : StateOf) (m : ℕ) (drawn : IsDrawnFrom x waited st (Some m))
-    (listed : HasTree (entries_of (grown x ts ls x.candidates x.ranks) u) (tree_by x (candidate_at x m).rule (ranks_of x (candidate_at x m)))) where
+    (listed : HasTree (entries_of (grown x ts ls x.candidates x.ranks) u) (tree_by x (candidate_at x m).rule (ranks_of x (candidate_at x m))))
+    (only_new : (w : Tree ℕ) → HasTree (entries_of (grown x ts ls x.candidates x.ranks) u) w → HasTree (entries_of x u) w ⊎ (tree_by x (candidate_at x m).rule (ranks_of x (candidate_at x m)) ≡ w)) where
   abbrev z : ListsOf
   z = grown x ts ls x.candidates x.ranks
 
@@ -68,6 +73,18 @@ module _ (product : ℕ → ℕ → ℕ) (k : ℕ) (x : ListsOf) (s : AreSound p
       (keeps product).takes x.rules k (entries_of z) asked.taken (tuples x waited) (tuples x st.heap) (tuple_of x m) u (carry asked.taken asked.taken (tuples x waited) u asked.kept)
       (Rattle.tib_lazy_lists.proofs.Kept.mapped_has (tuple_of x) waited m drawn.3.stands) out_of back_to (subst (λ (v : Tree ℕ). HasTree (entries_of z u) v) (sym t) listed)
 
+  single_after : AreOnce product z u (tuple_of x m ∷ asked.taken) (tuples x st.heap)
+  single_after = record {
+    once = distinct_moved (tuples x waited) (tuples x st.heap) asked.taken (tuple_of x m) out_of (omega (arith, drawn.4, length-map st.heap (tuple_of x), length-map waited (tuple_of x))) asked.single.once;
+    from = λ w h. from_kept product x s.sound ts ls x.candidates x.ranks more (tuple_of x m ∷ asked.taken) w (from_here w (only_new w h));
+  }
+    where
+      from_here : (w : Tree ℕ) → HasTree (entries_of x u) w ⊎ (tree_by x c.rule (ranks_of x c) ≡ w) → IsFrom product x.rules (entries_of x) (tuple_of x m ∷ asked.taken) w
+      from_here w (inl h) = from_more product x asked.taken (tuple_of x m) w (asked.single.from w h)
+      from_here w (inr e) =
+          let tuple = (s.made m low).is.tuple in
+          record { rule = c.rule; ranks = ranks_of x c; stands = inl refl; named = record { below = tuple.rule; ranks = tuple.ranks }; same = e }
+
   pub open_after : IsOpen product k z u st
   open_after =
       let e : tuple_of z st.last ≡ tuple_of x m = ap (tuple_of z) drawn.1 ∙ tuple_of_kept x s.sound ts ls x.candidates x.ranks more m low (s.made m low).is in
@@ -87,6 +104,9 @@ module _ (product : ℕ → ℕ → ℕ) (k : ℕ) (x : ListsOf) (s : AreSound p
           | inr g ↦ asked.preceded n front j back g
         ]);
         waits = subst (λ (ws : List pass.Candidate). ArePreceded asked.taken ws) (sym f) (λ n front j back h. asked.waits n front j back (back_to _ h));
+        single =
+            subst (λ (w : pass.Candidate). AreOnce product z u (w ∷ asked.taken) (tuples z st.heap)) (sym e)
+            (subst (λ (ws : List pass.Candidate). AreOnce product z u (tuple_of x m ∷ asked.taken) ws) (sym f) single_after);
       }
 
 module _ {levelled weighted : Bool} {product : ℕ → ℕ → ℕ} (laws : ProductLaws levelled weighted product) (x : ListsOf) (orderly : IsOrderly product x.rules) (a : AskingOf) (u m : ℕ) (t : IsTaking product x a u m) where
@@ -116,6 +136,18 @@ module _ {levelled weighted : Bool} {product : ℕ → ℕ → ℕ} (laws : Prod
       let e = has_mapped (told x.trees) (list_of x u) (w, h.0) h.1 in
       let p = at_has (list_of x u) e.0 no_entry e.1 in
       (p.0, p.1, ap (λ (b : Entry). tree_at x.trees b.tree) p.2 ∙ ap (λ (y : Costed). y.0) e.2)
+
+  -- in deterministic form its tree is not listed
+  pub is_new : IsDeterministic x.rules → SidesEndInHoles x.rules → HasTree (entries_of x u) tree → ⊥
+  is_new form leaves =
+      let tuple = (i.lists.made m within_here).is.tuple in
+      (no_duplicates laws).new x.labels x.rules (entries_of x) i.lists.sound.normal leaves form i.fronts t.asked.taken u d.rule (ranks_of x d) (record { below = tuple.rule; ranks = tuple.ranks }) t.asked.single.from
+      (distinct_across (tuples x t.waited) t.asked.taken (tuple_of x m) t.asked.single.once (Rattle.tib_lazy_lists.proofs.Kept.mapped_has (tuple_of x) t.waited m t.drawn.3.stands))
+
+  -- so it was placed
+  pub is_placed : IsDeterministic x.rules → SidesEndInHoles x.rules → (y : ListsOf) → IsPlacedOnce x u m y → IsPlaced x u m y
+  is_placed form leaves y (inl h) = absurd (is_new form leaves h)
+  is_placed form leaves y (inr p) = p
 
   -- a tree of more than 10,000 nodes is not listed, so it is next
   pub large : most_nodes < size tree → HasLarge product x.labels x.rules a.k u
@@ -183,14 +215,16 @@ module _ {levelled weighted : Bool} {product : ℕ → ℕ → ℕ} (laws : Prod
       };
       states = λ q n. inr (elim (i.states q n) [
         | inl e ↦ subst (λ (p : ℕ). IsState product a.k same p (state_at a p)) (sym e) state_here
-        | inr k ↦ state_kept product a.k x i.lists l.trees x.lists x.candidates x.ranks more_same_trees carry_same (λ v w. subst (λ (es : Entries). IsWhole product x.rules es v) (sym entries_same) w) q (state_at a q) k
+        | inr k ↦
+            state_kept product a.k x i.lists l.trees x.lists x.candidates x.ranks more_same_trees carry_same (λ v w. subst (λ (es : Entries). IsWhole product x.rules es v) (sym entries_same) w) q (state_at a q)
+            (ap (λ (es : Entries). es q) entries_same) k
       ]);
     }
       where
         open_here : IsOpen product a.k same u (state_at a u)
         open_here =
             open_after product a.k x i.lists l.trees x.lists more_same_trees carry_same u t.waited t.asked (state_at a u) m t.drawn
-            (subst (λ (es : Entries). HasTree (es u) tree) (sym entries_same) (had h))
+            (subst (λ (es : Entries). HasTree (es u) tree) (sym entries_same) (had h)) (λ w g. inl (subst (λ (es : Entries). HasTree (es u) w) entries_same g))
 
         state_here : IsState product a.k same u (state_at a u)
         state_here = subst (λ (g : Stage). IsAtStage product a.k same u (state_at a u) g) (sym t.drawn.0) open_here
@@ -219,7 +253,13 @@ module _ {levelled weighted : Bool} {product : ℕ → ℕ → ℕ} (laws : Prod
           d.cost,
           subst (λ (es : List Costed). Has es (tree, d.cost)) (sym (entries_here x sx l.trees l.number tree has_new small labelled u within d.cost m)) (has_right (entries_of x u) ((tree, d.cost) ∷ []) (tree, d.cost) (inl refl)),
         ) in
-        let open_here : IsOpen product a.k longer u (state_at a u) = open_after product a.k x i.lists l.trees _ more carry u t.waited t.asked (state_at a u) m t.drawn here in
+        let last : (w : Tree ℕ) → HasTree (entries_of longer u) w → HasTree (entries_of x u) w ⊎ (tree ≡ w) = λ w h.
+        elim (has_either (entries_of x u) ((tree, d.cost) ∷ []) (w, h.0) (subst (λ (es : List Costed). Has es (w, h.0)) (entries_here x sx l.trees l.number tree has_new small labelled u within d.cost m) h.1)) [
+          | inl k ↦ inl (h.0, k)
+          | inr k ↦ elim k [ inl e ↦ inr (ap (λ (y : Costed). y.0) e) | inr bad ↦ absurd bad ]
+        ]
+        in
+        let open_here : IsOpen product a.k longer u (state_at a u) = open_after product a.k x i.lists l.trees _ more carry u t.waited t.asked (state_at a u) m t.drawn here last in
         let state_here : IsState product a.k longer u (state_at a u) = subst (λ (g : Stage). IsAtStage product a.k longer u (state_at a u) g) (sym t.drawn.0) open_here in
         record {
           lists = record {
@@ -234,9 +274,14 @@ module _ {levelled weighted : Bool} {product : ℕ → ℕ → ℕ} (laws : Prod
           many = i.many ∙ sym (length-set x.lists u _);
           by_state = i.by_state;
           listed = listed_now x sx l.trees l.number tree has_new small labelled u within d.cost m a.listed pairs i.listed l.noted.to l.noted.new l.noted.from;
-          states = λ q h. inr (elim (i.states q h) [
+          states = λ q h. inr (elim (same_or q u) [
             | inl e ↦ subst (λ (p : ℕ). IsState product a.k longer p (state_at a p)) (sym e) state_here
-            | inr k ↦ state_kept product a.k x i.lists l.trees _ x.candidates x.ranks more carry (whole_grown x sx l.trees l.number tree has_new small labelled u within d.cost m product a.k t.free nx) q (state_at a q) k
+            | inr o ↦ elim (i.states q h) [
+              | inl e ↦ absurd (o e)
+              | inr k ↦
+                  state_kept product a.k x i.lists l.trees _ x.candidates x.ranks more carry (whole_grown x sx l.trees l.number tree has_new small labelled u within d.cost m product a.k t.free nx) q (state_at a q)
+                  (entries_there x sx l.trees l.number tree has_new small labelled u within d.cost m q o) k
+            ]
           ]);
         }
 
@@ -249,7 +294,7 @@ module _ {levelled weighted : Bool} {product : ℕ → ℕ → ℕ} (laws : Prod
     -- what was listed
     pub placed : IsPlacedOnce x u m y
     placed = elim l.how [
-      | inl h ↦ inl (ap (λ (z : ListsOf). z.lists) h.0)
+      | inl h ↦ inl (had h.1)
       | inr h ↦ inr (subst (λ (z : ListsOf). IsPlaced x u m z) (sym h.0) (record {
         rules = refl;
         ranks = refl;

@@ -59,6 +59,7 @@ pub rules_are : (product : ℕ → ℕ → ℕ) (x : ListsOf) (a : AskingOf) →
 rules_are product x a i u = record {
   each = λ n h e. subst (λ (q : ℕ). Has (get_or a.by_state q []) n) e (i.by_state.each n h);
   only = λ n h. i.by_state.only u n h;
+  once = i.by_state.once u;
 }
 
 -- after a draw

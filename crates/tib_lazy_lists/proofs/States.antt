@@ -1,6 +1,7 @@
 -- What a state keeps stays while lists grow.
-use Rattle.std.specs.Prelude.{◌≡◌, ℕ, List, ◌∷◌}
-use Rattle.std.proofs.Common.{arith, sym, ◌∙◌, subst}
+use Rattle.std.specs.Prelude.{◌≡◌, ℕ, List, ◌∷◌, length, refl}
+use Rattle.std.proofs.Common.{arith, ap, sym, ◌∙◌, subst}
+use Rattle.std.proofs.lemmas.List.{length-map}
 use Rattle.tib_lex.specs.Lists.{Has}
 use Rattle.tib_lex.proofs.Members.{has_left}
 use Rattle.tib_tree.specs.Trees.{Tree}
@@ -10,7 +11,8 @@ use Rattle.tib_ranked_trees.specs.Levels.{states_of}
 use Rattle.tib_ranked_trees.specs.Pass.{zeros, HasTree}
 use Rattle.tib_ranked_trees.specs.Pass as pass
 use Rattle.tib_ranked_trees.specs.ListsOf.{ListsOf}
-use Rattle.tib_ranked_trees.specs.Held.{entries_of, candidate_at, tuple_of, ranks_of, tree_by, grown, AreMore}
+use Rattle.tib_ranked_trees.specs.Best.{Costed}
+use Rattle.tib_ranked_trees.specs.Held.{entries_of, list_of, told, candidate_at, tuple_of, ranks_of, tree_by, grown, AreMore}
 use Rattle.tib_ranked_trees.specs.declared.lists.Entry.{Entry}
 use Rattle.tib_ranked_trees.specs.declared.lists.Candidate.{Candidate}
 use Rattle.tib_ranked_trees.proofs.Growing.{candidate_kept, tuple_of_kept, ranks_from_kept, tree_kept, entries_kept}
@@ -18,7 +20,8 @@ use Rattle.tib_lazy_lists.specs.declared.asking.Stage.{Stage}
 use Rattle.tib_lazy_lists.specs.declared.asking.Stage.TheVariants.{Closed, Open, Whole}
 use Rattle.tib_lazy_lists.specs.Offers.{tuples, AreSound, AreMoreCandidates}
 use Rattle.tib_lazy_lists.specs.AskingOf.{StateOf}
-use Rattle.tib_lazy_lists.specs.Asks.{ArePreceded, IsClosed, IsOpen, IsAtStage, IsState}
+use Rattle.tib_lazy_lists.specs.Asks.{AreOnce, ArePreceded, IsClosed, IsOpen, IsAtStage, IsState}
+use Rattle.tib_lazy_lists.proofs.Once.{from_kept}
 use Rattle.tib_lazy_lists.proofs.Kept.{tuples_kept, heap_stays, more_long, more_of, more_keeps}
 
 module _ (product : ℕ → ℕ → ℕ) (k : ℕ) (x : ListsOf) (s : AreSound product x) (ts : List (Tree ℕ)) (ls : List (List Entry)) (cs : List Candidate) (rs : List ℕ) (more : AreMore x ts ls cs rs)
@@ -29,8 +32,8 @@ module _ (product : ℕ → ℕ → ℕ) (k : ℕ) (x : ListsOf) (s : AreSound p
       let m = entries_kept x s.sound ts ls cs rs more u in
       (h.0, subst (λ (es : List (Tree ℕ × ℕ)). Has es (t, h.0)) (sym m.1) (has_left (entries_of x u) m.0 (t, h.0) h.1))
 
-  closed_kept : (u : ℕ) (st : StateOf) → IsClosed x u st → IsClosed (grown x ts ls cs rs) u st
-  closed_kept u st c =
+  closed_kept : (u : ℕ) (st : StateOf) → entries_of (grown x ts ls cs rs) u ≡ entries_of x u → IsClosed x u st → IsClosed (grown x ts ls cs rs) u st
+  closed_kept u st same c =
       let z : ListsOf = grown x ts ls cs rs in
       let d : Candidate = candidate_at x st.last in
       let e : candidate_at z st.last ≡ d = candidate_kept x s.sound ts ls cs rs more st.last c.last in
@@ -45,11 +48,12 @@ module _ (product : ℕ → ℕ → ℕ) (k : ℕ) (x : ListsOf) (s : AreSound p
         left = subst (λ (b : Candidate). (rule_at x.rules b.rule).left ≡ u) (sym e) c.left;
         first = subst (λ (b : Candidate). ranks_of z b ≡ zeros (states_of (rule_at x.rules b.rule))) (sym e) (r ∙ c.first);
         listed = subst (λ (b : Candidate). HasTree (entries_of z u) (tree_by z b.rule (ranks_of z b))) (sym e) l;
+        few = omega (arith, c.few, length-map (list_of z u) (told ts), length-map (list_of x u) (told x.trees), ap (λ (es : List Costed). length es) same);
         empty = c.empty;
       }
 
-  open_kept : (u : ℕ) (st : StateOf) → IsOpen product k x u st → IsOpen product k (grown x ts ls cs rs) u st
-  open_kept u st o =
+  open_kept : (u : ℕ) (st : StateOf) → entries_of (grown x ts ls cs rs) u ≡ entries_of x u → IsOpen product k x u st → IsOpen product k (grown x ts ls cs rs) u st
+  open_kept u st same o =
       let z : ListsOf = grown x ts ls cs rs in
       let e : tuple_of z st.last ≡ tuple_of x st.last = tuple_of_kept x s.sound ts ls cs rs more st.last o.last (s.made st.last o.last).is in
       let f : tuples z st.heap ≡ tuples x st.heap = tuples_kept product x s ts ls cs rs more st.heap o.below in
@@ -64,17 +68,27 @@ module _ (product : ℕ → ℕ → ℕ) (k : ℕ) (x : ListsOf) (s : AreSound p
             (carry o.older (tuple_of x st.last ∷ o.older) (tuples x st.heap) u o.kept));
         preceded = subst (λ (w : pass.Candidate). ArePreceded o.older (w ∷ o.older)) (sym e) o.preceded;
         waits = subst (λ (ws : List pass.Candidate). ArePreceded o.older ws) (sym f) o.waits;
+        single =
+            subst (λ (w : pass.Candidate). AreOnce product z u (w ∷ o.older) (tuples z st.heap)) (sym e)
+            (subst (λ (ws : List pass.Candidate). AreOnce product z u (tuple_of x st.last ∷ o.older) ws) (sym f)
+            (record {
+              once = o.single.once;
+              from = λ t h.
+                  from_kept product x s.sound ts ls cs rs more (tuple_of x st.last ∷ o.older) t
+                  (o.single.from t (subst (λ (es : List Costed). HasTree es t) same h));
+            }));
       }
 
-  stage_kept : (u : ℕ) (st : StateOf) → (g : Stage) → IsAtStage product k x u st g → IsAtStage product k (grown x ts ls cs rs) u st g
-  stage_kept u st Closed c = closed_kept u st c
-  stage_kept u st Open o = open_kept u st o
-  stage_kept u st Whole w = whole u w
+  stage_kept : (u : ℕ) (st : StateOf) → entries_of (grown x ts ls cs rs) u ≡ entries_of x u → (g : Stage) → IsAtStage product k x u st g → IsAtStage product k (grown x ts ls cs rs) u st g
+  stage_kept u st same Closed c = closed_kept u st same c
+  stage_kept u st same Open o = open_kept u st same o
+  stage_kept u st same Whole w = whole u w
 
-  pub state_kept : (u : ℕ) (st : StateOf) → IsState product k x u st → IsState product k (grown x ts ls cs rs) u st
-  state_kept u st i = stage_kept u st st.stage i
+  -- where its own list did not
+  pub state_kept : (u : ℕ) (st : StateOf) → entries_of (grown x ts ls cs rs) u ≡ entries_of x u → IsState product k x u st → IsState product k (grown x ts ls cs rs) u st
+  state_kept u st same i = stage_kept u st same st.stage i
 
 -- more candidates alone
 pub state_more : (product : ℕ → ℕ → ℕ) (k : ℕ) (x y : ListsOf) → AreSound product x → AreMoreCandidates x y → (u : ℕ) (st : StateOf) → IsState product k x u st → IsState product k y u st
 state_more product k x y s m u st i =
-    more_keeps x y m (λ z. IsState product k z u st) (state_kept product k x s x.trees x.lists y.candidates y.ranks (more_of x y m) (λ older taken held v h. h) (λ v h. h) u st i)
+    more_keeps x y m (λ z. IsState product k z u st) (state_kept product k x s x.trees x.lists y.candidates y.ranks (more_of x y m) (λ older taken held v h. h) (λ v h. h) u st refl i)

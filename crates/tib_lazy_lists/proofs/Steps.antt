@@ -2,13 +2,14 @@
 use Rattle.std.specs.Prelude.{◌≡◌, ℕ, ◌+◌, ◌<◌, ◌≤◌, List, [], ◌∷◌, ◌++◌, length, refl}
 use Rattle.std.proofs.Common.{zero, suc, arith, ap, sym, ◌∙◌, subst, inl, inr, get_or, length-append}
 use Rattle.std.proofs.lemmas.List.{length-map}
-use Rattle.tib_lex.specs.Lists.{Has}
+use Rattle.tib_lex.specs.Lists.{Has, Distinct}
 use Rattle.tib_lex.proofs.Lists.{has_mapped, head_is, tail_is}
-use Rattle.tib_lex.proofs.Members.{at_has, has_at}
+use Rattle.tib_lex.proofs.Members.{at_has, has_at, has_either}
 use Rattle.tib_cost.specs.Semiring.{most}
 use Rattle.tib_grammar.specs.Run.{rule_at}
 use Rattle.tib_ranked_trees.specs.Heaps.{IsHeap}
-use Rattle.tib_ranked_trees.specs.Lazy.{IsKept, IsAsked}
+use Rattle.tib_tree.specs.Trees.{Tree}
+use Rattle.tib_ranked_trees.specs.Lazy.{IsFrom, IsKept, IsAsked}
 use Rattle.tib_ranked_trees.specs.Levels.{states_at}
 use Rattle.tib_ranked_trees.specs.Pass.{AreRanks, zeros, zeros_at, offer, HasTree, IsKnown}
 use Rattle.tib_ranked_trees.specs.Pass as pass
@@ -20,7 +21,8 @@ use Rattle.tib_ranked_trees.proofs.Growing.{tuple_of_kept}
 use Rattle.tib_ranked_trees.proofs.Offering.{ranks_long}
 use Rattle.tib_lazy_lists.specs.Offers.{tuples, AreSound, order_of, AreMoreCandidates, AreStarted, AreOpened, HasFollowers}
 use Rattle.tib_lazy_lists.specs.AskingOf.{StateOf}
-use Rattle.tib_lazy_lists.specs.Asks.{ArePreceded, IsClosed, IsOpen, IsAnswered, AreAnswered, AreRulesOf}
+use Rattle.tib_lazy_lists.specs.Asks.{AreOnce, ArePreceded, IsClosed, IsOpen, IsAnswered, AreAnswered, AreRulesOf}
+use Rattle.tib_lazy_lists.proofs.Once.{distinct_right, one_alone, raised_at}
 use Rattle.tib_lazy_lists.proofs.Kept.{below_or, more_of, more_keeps}
 
 -- a candidate of the heap is one of its rule, names entries, and costs no more than the greatest
@@ -107,10 +109,40 @@ module _ (product : ℕ → ℕ → ℕ) (k : ℕ) (x : ListsOf) (lists : AreSou
           | inl i ↦ absurd (nothing_held _ i)
           | inr t ↦ absurd (not_zeros (states_at x.rules (get_or rules t.0 0)) front j (zeros back) (ap (λ (w : pass.Candidate). w.1) (sym t.2)))
         ];
+        single = subst (λ (ms : List ℕ). AreOnce product y u (tuple_of y t.last ∷ []) (tuples y ms)) (sym f)
+            (subst (λ (w : pass.Candidate). AreOnce product y u (w ∷ []) (tuples y now)) (sym tuple_is) (record { once = once_here; from = from_here }));
       }
     where
       paired : ℕ → List ℕ → pass.Candidate
       paired n js = (n, js)
+
+      none_twice : Distinct (tuples x s.heap ++ paired first (zeros_at x.rules first) ∷ [])
+      none_twice = subst (λ (ms : List ℕ). Distinct (tuples x ms ++ paired first (zeros_at x.rules first) ∷ [])) (sym c.empty) (λ h. h, tt)
+
+      once_here : Distinct (tuples y now ++ paired first (zeros_at x.rules first) ∷ [])
+      once_here = o.once by.once (paired first (zeros_at x.rules first) ∷ []) (λ i inside other h.
+          elim (has_either (tuples x s.heap) (paired first (zeros_at x.rules first) ∷ []) (paired (get_or rules i 0) (zeros_at x.rules (get_or rules i 0))) h) [
+            | inl w ↦ nothing_held _ w
+            | inr w ↦ elim w [ inl g ↦ other (sym (ap (λ (v : pass.Candidate). v.0) g)) | inr bad ↦ bad ]
+          ]) none_twice
+
+      from_first : (w : Tree ℕ) → HasTree (entries_of x u) w → IsFrom product x.rules (entries_of x) (paired first (zeros_at x.rules first) ∷ []) w
+      from_first w h =
+          let few : length (entries_of x u) ≤ 1 = omega (arith, c.few, length-map (list_of x u) (told x.trees)) in
+          let same : tree_by x first (ranks_of x (candidate_at x s.last)) ≡ w =
+          ap (λ (z : Tree ℕ × ℕ). z.0) (one_alone (entries_of x u) (tree_by x first (ranks_of x (candidate_at x s.last)), c.listed.0) (w, h.0) few c.listed.1 h.1)
+          in
+          let tuple = (lists.made s.last c.last).is.tuple in
+          record {
+            rule = first;
+            ranks = zeros_at x.rules first;
+            stands = inl refl;
+            named = record { below = tuple.rule; ranks = subst (λ (js : List ℕ). AreRanks (entries_of x) (states_at x.rules first) js) c.first tuple.ranks };
+            same = subst (λ (js : List ℕ). tree_by x first js ≡ w) c.first same;
+          }
+
+      from_here : (w : Tree ℕ) → HasTree (entries_of y u) w → IsFrom product y.rules (entries_of y) (paired first (zeros_at x.rules first) ∷ []) w
+      from_here = subst (λ (z : ListsOf). (w : Tree ℕ) → HasTree (entries_of z u) w → IsFrom product z.rules (entries_of z) (paired first (zeros_at x.rules first) ∷ []) w) (sym o.more.same) from_first
 
 -- a list with a rank raised by one
 
@@ -223,7 +255,7 @@ module _ (product : ℕ → ℕ → ℕ) (k : ℕ) (x : ListsOf) (lists : AreSou
         r.0,
         elim (h.followed.from (n, js) i) [
           | inl w ↦ (o.kept.in_range n js w).1
-          | inr e ↦ ap (λ (w : pass.Candidate). (rule_at x.rules w.0).left) e.3 ∙ (o.kept.named c.rule (ranks_of x c) (inl refl)).0
+          | inr e ↦ ap (λ (w : pass.Candidate). (rule_at x.rules w.0).left) e.4 ∙ (o.kept.named c.rule (ranks_of x c) (inl refl)).0
         ],
         r.1,
         r.2,
@@ -241,14 +273,34 @@ module _ (product : ℕ → ℕ → ℕ) (k : ℕ) (x : ListsOf) (lists : AreSou
   followed_waits n front j back i = elim (h.followed.from (n, front ++ suc j ∷ zeros back) i) [
     | inl w ↦ inr (o.waits n front j back w)
     | inr e ↦
-        let r : front ++ suc j ∷ zeros back ≡ raise e.0 (ranks_of x c) = ap (λ (w : pass.Candidate). w.1) e.3 in
+        let r : front ++ suc j ∷ zeros back ≡ raise e.0 (ranks_of x c) = ap (λ (w : pass.Candidate). w.1) e.4 in
         let many : length (ranks_of x c) ≡ length (below_of x c) = ranks_long (entries_of x) (below_of x c) (ranks_of x c) (lists.made s.last o.last).is.tuple.ranks in
         let b : front ++ j ∷ zeros back ≡ ranks_of x c =
         before_raised e.0 (ranks_of x c) front j back (omega (arith, e.2, many)) (λ m low high. h.is_last.zeros m (omega (arith, e.1, low)) high) r
         in
-        let rule : c.rule ≡ n = sym (ap (λ (w : pass.Candidate). w.0) e.3) in
+        let rule : c.rule ≡ n = sym (ap (λ (w : pass.Candidate). w.0) e.4) in
         inl (ap (λ (m : ℕ). paired m (ranks_of x c)) rule ∙ ap (λ (js : List ℕ). paired n js) (sym b))
   ]
     where
       paired : ℕ → List ℕ → pass.Candidate
       paired m js = (m, js)
+
+  -- no candidate is there twice
+  followed_once : Distinct (tuples y now ++ tuple_of x s.last ∷ o.older)
+  followed_once = h.followed.once (tuple_of x s.last ∷ o.older) (λ i low inside k.
+      let many : length (ranks_of x c) ≡ length (below_of x c) = ranks_long (entries_of x) (below_of x c) (ranks_of x c) (lists.made s.last o.last).is.tuple.ranks in
+      let r = raised_at i (ranks_of x c) (omega (arith, inside, many)) (λ m after high. h.is_last.zeros m (omega (arith, low, after)) high) in
+      let w : pass.Candidate = (c.rule, r.front ++ suc r.rank ∷ zeros r.back) in
+      let i_was : Has (tuples x s.heap ++ tuple_of x s.last ∷ o.older) w = subst (λ (js : List ℕ). Has (tuples x s.heap ++ tuple_of x s.last ∷ o.older) (c.rule, js)) r.now k in
+      let before : Has o.older (c.rule, r.front ++ r.rank ∷ zeros r.back) = elim (has_either (tuples x s.heap) (tuple_of x s.last ∷ o.older) w i_was) [
+        | inl v ↦ o.waits c.rule r.front r.rank r.back v
+        | inr v ↦ o.preceded c.rule r.front r.rank r.back v
+      ]
+      in
+      (distinct_right (tuples x s.heap) (tuple_of x s.last ∷ o.older) o.single.once).0 (subst (λ (js : List ℕ). Has o.older (c.rule, js)) r.before before)) o.single.once
+
+  pub followed_single : AreOnce product y u (tuple_of x s.last ∷ o.older) (tuples y now)
+  followed_single = record {
+    once = followed_once;
+    from = subst (λ (z : ListsOf). (t : Tree ℕ) → HasTree (entries_of z u) t → IsFrom product z.rules (entries_of z) (tuple_of x s.last ∷ o.older) t) (sym h.followed.more.same) o.single.from;
+  }

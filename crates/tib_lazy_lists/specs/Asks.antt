@@ -2,13 +2,13 @@
 use Rattle.std.specs.Prelude.{◌≡◌, ◌⊎◌, ℕ, ◌^◌, ◌+◌, ◌<◌, ◌≤◌, List, [], ◌∷◌, ◌++◌, length, sum_by, Option, None, Some}
 use Rattle.std.proofs.Common.{suc, get_or}
 use Rattle.std.proofs.Math.ListN.{set}
-use Rattle.tib_lex.specs.Lists.{Has}
+use Rattle.tib_lex.specs.Lists.{Has, Distinct}
 use Rattle.tib_tree.specs.Trees.{Tree}
 use Rattle.tib_grammar.specs.Run.{rule_at}
 use Rattle.tib_grammar.specs.declared.Rule.{Rule}
 use Rattle.tib_ranked_trees.specs.Heaps.{IsHeap, TakesFirst}
 use Rattle.tib_ranked_trees.specs.Best.{IsFrontAt}
-use Rattle.tib_ranked_trees.specs.Lazy.{IsKept, IsWhole}
+use Rattle.tib_ranked_trees.specs.Lazy.{IsFrom, IsKept, IsWhole}
 use Rattle.tib_ranked_trees.specs.Pass.{HasTree, zeros}
 use Rattle.tib_ranked_trees.specs.Pass as pass
 use Rattle.tib_ranked_trees.specs.ListsOf.{ListsOf}
@@ -20,13 +20,20 @@ use Rattle.tib_lazy_lists.specs.declared.asking.Stage.TheVariants.{Closed, Open,
 use Rattle.tib_lazy_lists.specs.Offers.{room, tuples, order_of, AreSound, IsHeld, AreStarted, AreMoreCandidates, AreOpened}
 use Rattle.tib_lazy_lists.specs.AskingOf.{StateOf, AskingOf, state_at}
 
--- A state that has its first tree, of a candidate with ranks 0, and no candidate that waits.
+-- A state that has its first tree alone, of a candidate with ranks 0, and no candidate that waits.
 pub record IsClosed (x : ListsOf) (u : ℕ) (s : StateOf) : Type 0 where
   pub last : s.last < length x.candidates
   pub left : (rule_of x (candidate_at x s.last)).left ≡ u
   pub first : ranks_of x (candidate_at x s.last) ≡ zeros (below_of x (candidate_at x s.last))
   pub listed : HasTree (entries_of x u) (tree_by x (candidate_at x s.last).rule (ranks_of x (candidate_at x s.last)))
+  pub few : length (list_of x u) ≤ 1
   pub empty : s.heap ≡ []
+
+-- Of the candidates that wait and those that were taken none is there twice, and each listed tree
+-- came from one that was taken.
+pub record AreOnce (product : ℕ → ℕ → ℕ) (x : ListsOf) (u : ℕ) (taken held : List pass.Candidate) : Type 0 where
+  pub once : Distinct (held ++ taken)
+  pub from : (t : Tree ℕ) → HasTree (entries_of x u) t → IsFrom product x.rules (entries_of x) taken t
 
 -- The candidate before each that is known, with its last rank that is not 0 lowered by one, has its
 -- followers.
@@ -42,6 +49,7 @@ pub record IsOpen (product : ℕ → ℕ → ℕ) (k : ℕ) (x : ListsOf) (u : �
   pub kept : IsKept product x.rules k (entries_of x) older (tuple_of x s.last ∷ older) (tuples x s.heap) u
   pub preceded : ArePreceded older (tuple_of x s.last ∷ older)
   pub waits : ArePreceded older (tuples x s.heap)
+  pub single : AreOnce product x u (tuple_of x s.last ∷ older) (tuples x s.heap)
 
 -- what a state keeps between two asks
 abbrev pub IsAtStage : (ℕ → ℕ → ℕ) → ℕ → ListsOf → ℕ → StateOf → Stage → Type 0
@@ -59,6 +67,7 @@ pub record IsAskedFor (product : ℕ → ℕ → ℕ) (k : ℕ) (x : ListsOf) (u
   pub kept : IsKept product x.rules k (entries_of x) taken taken (tuples x heap) u
   pub preceded : ArePreceded taken taken
   pub waits : ArePreceded taken (tuples x heap)
+  pub single : AreOnce product x u taken (tuples x heap)
 
 -- a state has an entry after a rank, or never will, or needs none
 abbrev pub IsAnswered : (ℕ → ℕ → ℕ) → ℕ → ListsOf → ℕ → ℕ → Type 0
@@ -73,10 +82,11 @@ pub record AreListed (x : ListsOf) (pairs : List (ℕ × ℕ)) : Type 0 where
   pub to : (q j : ℕ) → j < length (list_of x q) → Has pairs (q, (entry_at x q j).tree)
   pub from : (q n : ℕ) → Has pairs (q, n) → (j : ℕ) × (j < length (list_of x q)) × ((entry_at x q j).tree ≡ n)
 
--- the rules of each state
+-- the rules of each state, each once
 pub record AreByState (rules : List (Rule ℕ)) (by_state : List (List ℕ)) : Type 0 where
   pub each : (n : ℕ) → n < length rules → Has (get_or by_state (rule_at rules n).left []) n
   pub only : (q n : ℕ) → Has (get_or by_state q []) n → (n < length rules) × ((rule_at rules n).left ≡ q)
+  pub once : (q : ℕ) → Distinct (get_or by_state q [])
 
 -- What is kept while lists grow: each list is a front of its state's trees and has at most k of
 -- them, and each state but one keeps what it keeps between two asks.
@@ -106,10 +116,11 @@ pub record StaysGrammar (x y : ListsOf) : Type 0 where
   pub label_ranks : y.label_ranks ≡ x.label_ranks
   pub states : length y.lists ≡ length x.lists
 
--- a state's rules, in any order
+-- a state's rules, each once, in any order
 pub record AreRulesOf (rules : List (Rule ℕ)) (u : ℕ) (ns : List ℕ) : Type 0 where
   pub each : (n : ℕ) → n < length rules → (rule_at rules n).left ≡ u → Has ns n
   pub only : (n : ℕ) → Has ns n → (n < length rules) × ((rule_at rules n).left ≡ u)
+  pub once : Distinct ns
 
 -- the first candidates of a state's rules were offered, or had been before
 pub record IsOpened (product : ℕ → ℕ → ℕ) (x : ListsOf) (rules : List ℕ) (s : StateOf) (y : ListsOf) (t : StateOf) : Type 0 where
@@ -131,7 +142,7 @@ pub record CanTake (product : ℕ → ℕ → ℕ) (k : ℕ) (x : ListsOf) (u : 
 -- the least of the candidates that waited was taken, or none waited
 abbrev pub IsDrawnFrom : ListsOf → List ℕ → StateOf → Option ℕ → Type 0
 IsDrawnFrom y heap t None = (heap ≡ []) × (t.stage ≡ Whole)
-IsDrawnFrom y heap t (Some m) = (t.stage ≡ Open) × (t.last ≡ m) × IsHeap (order_of y) t.heap × TakesFirst (order_of y) heap m t.heap
+IsDrawnFrom y heap t (Some m) = (t.stage ≡ Open) × (t.last ≡ m) × IsHeap (order_of y) t.heap × TakesFirst (order_of y) heap m t.heap × (length t.heap + 1 ≡ length heap)
 
 -- how often a state may still take a candidate, or find none: once for each that waits, and once
 -- more while its list is not complete

@@ -5,7 +5,7 @@ use Rattle.std.proofs.Math.ListN.{set}
 use Rattle.tib_lex.specs.Lists.{Has}
 use Rattle.tib_tree.specs.Trees.{size}
 use Rattle.tib_ranked_trees.specs.Best.{Costed}
-use Rattle.tib_ranked_trees.specs.Pass.{Entries, entry_at, no_entry}
+use Rattle.tib_ranked_trees.specs.Pass.{Entries, HasTree, entry_at, no_entry}
 use Rattle.tib_ranked_trees.specs.ListsOf.{ListsOf}
 use Rattle.tib_ranked_trees.specs.Held.{list_of, entries_of, candidate_at, tree_by, ranks_of}
 use Rattle.tib_ranked_trees.specs.Levels.{states_at}
@@ -98,9 +98,11 @@ pub record IsPlaced (x : ListsOf) (u m : ℕ) (y : ListsOf) : Type 0 where
       entries_of y u
       ≡ entries_of x u ++ (tree_by x (candidate_at x m).rule (ranks_of x (candidate_at x m)), entry.cost) ∷ []
 
--- or it was on a list before
+-- or it was on the list before
 abbrev pub IsPlacedOnce : ListsOf → ℕ → ℕ → ListsOf → Type 0
-IsPlacedOnce x u m y = (y.lists ≡ x.lists) ⊎ IsPlaced x u m y
+IsPlacedOnce x u m y =
+    HasTree (entries_of x u) (tree_by x (candidate_at x m).rule (ranks_of x (candidate_at x m)))
+    ⊎ IsPlaced x u m y
 
 -- The state of a demand got one more entry, or has all its trees, and nothing else was listed.
 pub record IsOneMore (x : ListsOf) (a : AskingOf) (d : Demand) (y : ListsOf) (b : AskingOf) : Type 0 where

@@ -2,7 +2,7 @@
 use Rattle.std.specs.Prelude.{◌≡◌, ◌⊎◌, ℕ, ◌+◌, ◌-◌, ◌^◌, ◌<◌, ◌≤◌, List, ◌++◌, length, map}
 use Rattle.std.proofs.Common.{get_or}
 use Rattle.std.specs.declared.cmp.Ordering.{Ordering}
-use Rattle.tib_lex.specs.Lists.{Has}
+use Rattle.tib_lex.specs.Lists.{Has, Distinct}
 use Rattle.tib_cost.specs.Semiring.{most}
 use Rattle.tib_ranked_trees.specs.Heaps.{IsHeap}
 use Rattle.tib_ranked_trees.specs.Levels.{states_at}
@@ -43,7 +43,7 @@ abbrev pub room : ListsOf → ℕ
 room x = 2 ^ 32 - length x.candidates
 
 -- A rule with ranks was offered to a heap if `When` holds. The heap then has it, unless it costs
--- more than the greatest cost.
+-- more than the greatest cost. If it was new, no candidate is there twice that was not before.
 pub record IsOffered (product : ℕ → ℕ → ℕ) (When : Type 0) (x : ListsOf) (n : ℕ) (js heap : List ℕ) (y : ListsOf) (now : List ℕ) : Type 0 where
   pub held : IsHeld product y now
   pub more : AreMoreCandidates x y
@@ -51,6 +51,7 @@ pub record IsOffered (product : ℕ → ℕ → ℕ) (When : Type 0) (x : ListsO
   pub from : (z : pass.Candidate) → Has (tuples y now) z → Has (tuples x heap) z ⊎ (z ≡ (n, js))
   pub count : room y + length now ≤ room x + length heap
   pub there : When → (offer product x.rules (entries_of x) n js).1 ≤ most → Has (tuples y now) (n, js)
+  pub once : (taken : List pass.Candidate) → (Has (tuples x heap ++ taken) (n, js) → ⊥) → Distinct (tuples x heap ++ taken) → Distinct (tuples y now ++ taken)
 
 -- each state below a rule has its first tree
 abbrev pub AreStarted : ListsOf → Type 0
@@ -66,6 +67,10 @@ pub record AreOpened (product : ℕ → ℕ → ℕ) (x : ListsOf) (rules : List
   pub count : room y + length now ≤ room x + length heap
   pub there : (i : ℕ) → i < n → (get_or rules i 0 ≡ but) ⊎
       ((offer product x.rules (entries_of x) (get_or rules i 0) (zeros_at x.rules (get_or rules i 0))).1 ≤ most → Has (tuples y now) (get_or rules i 0, zeros_at x.rules (get_or rules i 0)))
+  pub once :
+      Distinct rules → (taken : List pass.Candidate) →
+      ((i : ℕ) → i < length rules → (get_or rules i 0 ≡ but → ⊥) → Has (tuples x heap ++ taken) (get_or rules i 0, zeros_at x.rules (get_or rules i 0)) → ⊥) →
+      Distinct (tuples x heap ++ taken) → Distinct (tuples y now ++ taken)
 
 -- The candidates with the i-th rank of a candidate raised by one were offered to a heap, for each i
 -- from the first to below n, where there is such an entry.
@@ -73,10 +78,13 @@ pub record AreFollowed (product : ℕ → ℕ → ℕ) (x : ListsOf) (c : Candid
   pub held : IsHeld product y now
   pub more : AreMoreCandidates x y
   pub to : (z : pass.Candidate) → Has (tuples x heap) z → Has (tuples y now) z
-  pub from : (z : pass.Candidate) → Has (tuples y now) z → Has (tuples x heap) z ⊎ ((i : ℕ) × (first ≤ i) × (i < length (below_of x c)) × (z ≡ (c.rule, raise i (ranks_of x c))))
+  pub from : (z : pass.Candidate) → Has (tuples y now) z → Has (tuples x heap) z ⊎ ((i : ℕ) × (first ≤ i) × (i < length (below_of x c)) × (i < n) × (z ≡ (c.rule, raise i (ranks_of x c))))
   pub count : room y + length now ≤ room x + length heap
   pub there : (i : ℕ) → first ≤ i → i < n → get_or (ranks_of x c) i 0 + 1 < length (list_of x (get_or (below_of x c) i 0)) →
       (offer product x.rules (entries_of x) c.rule (raise i (ranks_of x c))).1 ≤ most → Has (tuples y now) (c.rule, raise i (ranks_of x c))
+  pub once :
+      (taken : List pass.Candidate) → ((i : ℕ) → first ≤ i → i < length (below_of x c) → Has (tuples x heap ++ taken) (c.rule, raise i (ranks_of x c)) → ⊥) →
+      Distinct (tuples x heap ++ taken) → Distinct (tuples y now ++ taken)
 
 -- all candidates that follow one were offered
 pub record HasFollowers (product : ℕ → ℕ → ℕ) (x : ListsOf) (c : Candidate) (heap : List ℕ) (y : ListsOf) (now : List ℕ) : Type 0 where

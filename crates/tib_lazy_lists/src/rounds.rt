@@ -1,13 +1,15 @@
 // Demands that are met, those below others first.
 ghost use Rattle.std.specs.Prelude.{◌≡◌, ◌<◌, ◌≤◌, ◌+◌, ℕ, length, IfErr, IfNone, IfSome, OnOk};
+ghost use Rattle.tib_grammar.specs.Forms.{IsDeterministic};
+ghost use Rattle.tib_grammar.specs.Range.{SidesEndInHoles};
 ghost use Rattle.tib_ranked_trees.specs.Best.{IsFrontAt, IsKBest};
 ghost use Rattle.tib_ranked_trees.specs.Levels.{IsOrderly};
 ghost use Rattle.tib_ranked_trees.specs.Held.{below_of, candidate_at, entries_of, list_of, IsSound};
 ghost use Rattle.tib_lazy_lists.specs.AskingOf.{asking_of, state_at};
-ghost use Rattle.tib_lazy_lists.specs.Asks.{AreAnswered, IsAsking, IsTaking, StaysAsking, StaysGrammar};
+ghost use Rattle.tib_lazy_lists.specs.Asks.{AreAnswered, IsAsking, StaysAsking, StaysGrammar};
 ghost use Rattle.tib_lazy_lists.specs.Stacks.{IsDone};
 ghost use Rattle.tib_lazy_lists.specs.Causes.{IsAskCause};
-ghost use Rattle.tib_lazy_lists.specs.Demands.{entries_held, nodes_of, AreLastListed, IsOneMore, IsPlaced, IsRound, IsUnmet, IsWithin};
+ghost use Rattle.tib_lazy_lists.specs.Demands.{entries_held, nodes_of, AreLastListed, IsOneMore, IsRound, IsUnmet, IsWithin};
 
 use crate::asking::Asking;
 use crate::demanding::Demand;
@@ -17,36 +19,8 @@ use tib_cost::Semiring;
 use tib_ranked_trees::Lists;
 
 impl Asking {
-    // Lists the tree of the candidate that a state took. In deterministic form it is new; if it
-    // were not, the error would be `OutOfMemory`.
-    fn list_new<S: Semiring>(
-        &mut self,
-        alloc: Global,
-        lists: &mut Lists,
-        state: u32,
-        candidate: u32,
-    ) -> Result<(), AskError>
-        requires taking { IsTaking S.product lists.old (asking_of self.old) state candidate }
-        requires orderly { IsOrderly S.product lists.old.rules }
-        ensures kept { OnOk result (IsAsking S.product lists.new (asking_of self.new)) }
-        ensures grammar { OnOk result (StaysGrammar lists.old lists.new) }
-        ensures same { OnOk result (StaysAsking (asking_of self.old) (asking_of self.new)) }
-        ensures states { OnOk result ((asking_of self.new).states ≡ (asking_of self.old).states) }
-        ensures placed { OnOk result (IsPlaced lists.old state candidate lists.new) }
-        ensures cause { IfErr result (IsAskCause S.product lists.old self.old.k) }
-    {
-        let before = lists.len(state);
-        match self.list::<S>(alloc, lists, state, candidate) {
-            Ok(()) => {}
-            Err(error) => return Err(error),
-        }
-        if lists.len(state) == before {
-            return Err(AskError::OutOfMemory);
-        }
-        Ok(())
-    }
-
-    // Makes a state take its least candidate, and lists the candidate's tree.
+    // Makes a state take its least candidate, and lists the candidate's tree, which is new in
+    // deterministic form.
     fn grow<S: Semiring>(
         &mut self,
         alloc: Global,
@@ -57,6 +31,8 @@ impl Asking {
         requires listed { AreLastListed lists.old (asking_of self.old) }
         requires unmet { IsUnmet lists.old (asking_of self.old) demand }
         requires orderly { IsOrderly S.product lists.old.rules }
+        requires form { IsDeterministic lists.old.rules }
+        requires leaves { SidesEndInHoles lists.old.rules }
         requires answered { let c = candidate_at lists.old
             (state_at (asking_of self.old) demand.state).last in
             AreAnswered S.product self.old.k lists.old c (length (below_of lists.old c)) }
@@ -71,7 +47,7 @@ impl Asking {
         match self.draw::<S>(lists, demand.state) {
             Err(_) => Err(AskError::OutOfMemory),
             Ok(None) => Ok(()),
-            Ok(Some(candidate)) => self.list_new::<S>(alloc, lists, demand.state, candidate),
+            Ok(Some(candidate)) => self.list::<S>(alloc, lists, demand.state, candidate),
         }
     }
 
@@ -87,6 +63,8 @@ impl Asking {
         requires state { demand.state < length (asking_of self.old).states }
         requires many { demand.many ≤ length (list_of lists.old demand.state) }
         requires orderly { IsOrderly S.product lists.old.rules }
+        requires form { IsDeterministic lists.old.rules }
+        requires leaves { SidesEndInHoles lists.old.rules }
         requires answered { IsUnmet lists.old (asking_of self.old) demand →
             let c = candidate_at lists.old (state_at (asking_of self.old) demand.state).last in
             AreAnswered S.product self.old.k lists.old c (length (below_of lists.old c)) }
@@ -115,6 +93,8 @@ impl Asking {
         requires listed { AreLastListed lists.old (asking_of self.old) }
         requires first { IsUnmet lists.old (asking_of self.old) first }
         requires orderly { IsOrderly S.product lists.old.rules }
+        requires form { IsDeterministic lists.old.rules }
+        requires leaves { SidesEndInHoles lists.old.rules }
         ensures kept { OnOk result (IsAsking S.product lists.new (asking_of self.new)) }
         ensures listed { OnOk result (AreLastListed lists.new (asking_of self.new)) }
         ensures round { OnOk result (IsRound lists.old first lists.new (asking_of self.new)) }
@@ -162,6 +142,8 @@ impl Asking {
         requires listed { AreLastListed lists.old (asking_of self.old) }
         requires within { IsWithin (length lists.old.lists) lists.old (asking_of self.old) }
         requires orderly { IsOrderly S.product lists.old.rules }
+        requires form { IsDeterministic lists.old.rules }
+        requires leaves { SidesEndInHoles lists.old.rules }
         requires start { 0 < length (asking_of self.old).states }
         ensures best { OnOk result (IsKBest S.product lists.old.rules lists.old.labels self.old.k
             (entries_of lists.new 0)) }

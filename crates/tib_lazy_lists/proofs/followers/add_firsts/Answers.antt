@@ -23,7 +23,7 @@ loop-rule-preserved g c =
       | then-rule-but+in_ok-add_first w ↦
           subst (λ (u : ListsOf). AreOpened g.S.Semiring.product x c.args.rules.now c.args.but (i + 1) c.args.heap.now.items u c.if-rule-but.heap.items) (sym w.lists-is)
           (subst (λ (v : Vec ℕ). AreOpened g.S.Semiring.product x c.args.rules.now c.args.but (i + 1) c.args.heap.now.items w.add_first.new.lists v.items) (sym w.heap-is)
-          (opened_next g.S.Semiring.product x c.args.rules.now c.args.but i c.args.heap.now.items c.loop-rule.lists c.loop-rule.heap.items c.loop-rule.invariant r refl w.add_first.new.lists w.add_first.new.heap.items w.in_ok-add_first.ensures))
+          (opened_next g.S.Semiring.product x c.args.rules.now c.args.but i c.args.heap.now.items c.loop-rule.lists c.loop-rule.heap.items c.loop-rule.invariant r refl w.if-rule-but.true c.loop-rule-test.true w.add_first.new.lists w.add_first.new.heap.items w.in_ok-add_first.ensures))
       | else-rule-but w ↦
           subst (λ (u : ListsOf). AreOpened g.S.Semiring.product x c.args.rules.now c.args.but (i + 1) c.args.heap.now.items u c.if-rule-but.heap.items) (sym w.lists-is)
           (subst (λ (v : Vec ℕ). AreOpened g.S.Semiring.product x c.args.rules.now c.args.but (i + 1) c.args.heap.now.items c.loop-rule.lists v.items) (sym w.heap-is)

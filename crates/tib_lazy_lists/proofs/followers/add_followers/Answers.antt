@@ -1,9 +1,10 @@
-use Rattle.std.specs.Prelude.{ℕ, List, length, ◌<◌, ◌≡◌}
+use Rattle.std.specs.Prelude.{ℕ, List, length, ◌<◌, ◌≡◌, refl}
 use Rattle.std.proofs.Common.{arith, subst, ap}
 use Rattle.tib_grammar.specs.Run.{rule_at}
 use Rattle.tib_ranked_trees.specs.Levels.{states_of, states_at}
 use Rattle.tib_ranked_trees.specs.ListsOf.{ListsOf}
-use Rattle.tib_ranked_trees.specs.Held.{candidate_at, below_of, IsLast}
+use Rattle.tib_ranked_trees.specs.Held.{candidate_at, entries_of, below_of, ranks_of, IsLast}
+use Rattle.tib_ranked_trees.proofs.Offering.{ranks_long}
 use Rattle.tib_ranked_trees.specs.declared.lists.Candidate.{Candidate}
 use Rattle.tib_lazy_lists.proofs.Kept.{more_keeps}
 use Rattle.tib_lazy_lists.proofs.Followed.{followed_none, followed_at, followed_all, tuple_read, tuple_more, ranks_read}
@@ -31,7 +32,8 @@ loop-i-preserved g c =
     let d : Candidate = candidate_at x c.args.last in
     followed_at g.S.Semiring.product x d c.last-i.result c.loop-i.i c.args.heap.now.items c.loop-i.lists c.loop-i.heap.items c.loop-i.invariant
     (tuple_more x c.loop-i.lists c.requires.held.lists.sound c.loop-i.invariant.more d.rule d.start (c.requires.held.lists.made c.args.last c.requires.last).is.tuple).1 (omega arith)
-    (omega (arith, ap (λ (e : Candidate). length (below_of x e)) c.candidate.ensures, c.loop-i-test.true, c.count-count.ensures.many)) c.candidate.result.now c.candidate-2.result.now
+    (omega (arith, ap (λ (e : Candidate). length (below_of x e)) c.candidate.ensures, c.loop-i-test.true, c.count-count.ensures.many))
+    (ranks_long (entries_of x) (below_of x d) (ranks_of x d) (c.requires.held.lists.made c.args.last c.requires.last).is.tuple.ranks) c.candidate.result.now c.candidate-2.result.now
     c.candidate.ensures c.candidate-2.ensures c.add_next.new.lists c.add_next.new.heap.items c.in_ok-add_next.ensures
 
 pub returns : goal.returns
@@ -42,5 +44,5 @@ returns g c =
     record {
       first = c.last-i.result;
       is_last = subst (λ (js : List ℕ). IsLast js c.last-i.result) (ranks_read x d c.candidate.result.now c.candidate-2.result.now c.candidate.ensures c.candidate-2.ensures) c.last-i.ensures;
-      followed = followed_all g.S.Semiring.product x d c.last-i.result (length (below_of x d)) c.loop-i.i c.args.heap.now.items c.loop-i.lists c.loop-i.heap.items (omega (arith, long, c.loop-i-test.false, c.count-count.ensures.many)) c.loop-i.invariant;
+      followed = followed_all g.S.Semiring.product x d c.last-i.result (length (below_of x d)) c.loop-i.i c.args.heap.now.items c.loop-i.lists c.loop-i.heap.items (omega (arith, long, c.loop-i-test.false, c.count-count.ensures.many)) refl c.loop-i.invariant;
     }
