@@ -1,20 +1,15 @@
 -- What a grammar is counted by, and what is made to count it.
-use Rattle.std.proofs.Common.{◌≡◌, ℕ, max, List, length, sym, subst, inl, inr}
-use Rattle.tib_cost.specs.declared.Scale.TheVariants.{Unweighted}
+use Rattle.std.proofs.Common.{◌≡◌, ℕ, max, sym, subst, inl, inr}
 use Rattle.tib_lex.specs.Lists.{IsReordering}
 use Rattle.tib_grammar.specs.GrammarOf.{GrammarOf}
 use Rattle.tib_expand.specs.Reached.{IsBeyond}
 use Rattle.tib_inside.specs.Trimmed.{HasSameSeries}
-use Rattle.tib_canon.specs.Constructions.{HasReachedWithin, IsCanonicalOf}
-use Rattle.tib_canon.specs.Keys.{IsCanonicalOverKeys, behind_fresh}
+use Rattle.tib_canon.specs.Constructions.{HasReachedWithin}
 use Rattle.tib_canon.specs.TrimmedForms.{IsTrimmedForm}
-use Rattle.tib_canon.specs.declared.begin.Begin.{Begin}
-use Rattle.tib_canon.specs.declared.begin.Begin.TheVariants.{Fresh}
-use Rattle.tib_determinize.specs.Determinization.{determinization, vector_cmp}
-use Rattle.tib_determinize.specs.Started.{finals}
+use Rattle.tib_determinize.specs.Determinization.{determinization}
 use Rattle.tib_count.specs.Counts.{IsEndless, IsCountOf}
-use Rattle.tib_count.specs.Counted.{IsRun, IsTree, HaveRuns}
-use Rattle.tib_count.specs.Laws.{AreFree, AsManyTrees, CanonicalHasRuns}
+use Rattle.tib_count.specs.Counted.{IsRun, IsTree}
+use Rattle.tib_count.specs.Laws.{AreFree, AsManyTrees}
 use Rattle.tib_count.specs.declared.count.Count.{Count}
 use Rattle.tib_count.specs.declared.count.Count.TheVariants.{Endless}
 use Rattle.tib_operations.specs.Count.{count_makes}
@@ -23,14 +18,6 @@ use Rattle.tib_operations.specs.Made.{normal_form, IsMadeFault}
 use Rattle.tib_operations.specs.declared.status.Status.{Status}
 use Rattle.tib_operations.specs.declared.status.Status.TheVariants as statuses
 use Rattle.tib_operations.proofs.VectorsByText.{more_vectors}
-
--- each state in the right sides of the canonical form of the vectors of a trimmed normal form has a
--- run
-pub canonical_runs : CanonicalHasRuns max → (labels : List (List ℕ)) (limit : ℕ) (form h : GrammarOf) → IsCanonicalOf max Unweighted labels limit (determinizing max form) h → HaveRuns h.rules
-canonical_runs law labels limit form h c =
-    let fs : List (ℕ × ℕ) = finals 0 c.order in
-    let keys : IsCanonicalOverKeys max Unweighted labels vector_cmp c.order c.rules (Fresh fs) h = subst (λ (z : Begin). IsCanonicalOverKeys max Unweighted labels vector_cmp c.order c.rules z h) c.begun c.canonical in
-    law Unweighted labels keys.over h (length (behind_fresh c.order)) keys.begun.in_range keys.canonical
 
 module _ (as_many : AsManyTrees) (g form : GrammarOf) (free : AreFree g.rules) (form_free : AreFree form.rules) (same : HasSameSeries max g form) where
   -- a grammar has as many trees as its trimmed normal form

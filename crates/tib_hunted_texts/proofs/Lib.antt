@@ -3,3 +3,4 @@ pub mod Handed
 pub mod Pairs
 pub mod Telling
 pub mod Counting
+pub mod VectorRuns

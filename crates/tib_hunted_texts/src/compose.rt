@@ -5,7 +5,6 @@ ghost use Rattle.tib_expand.specs.Reached.{IsBeyond};
 ghost use Rattle.tib_key_edges.specs.Composition.{composition};
 ghost use Rattle.tib_compose.specs.Composed.{AreOverOrder, HasPartsOf, IsComposeFault, IsReachedBy};
 ghost use Rattle.tib_canon.specs.TransducerKeys.{AreMovesOver};
-ghost use Rattle.tib_operations.specs.Classes.{demanded_of, IsClassFault};
 ghost use Rattle.tib_operations.specs.Compose.{plain, compose_makes, HasComposeText, IsComposeText};
 ghost use Rattle.tib_operations.specs.Made.{IsLimit, IsMadeFault};
 

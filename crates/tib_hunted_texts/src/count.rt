@@ -1,14 +1,16 @@
 // `count`: how many states and rules are in complete runs, how many runs there are, and how many
 // trees.
-ghost use Rattle.std.specs.Prelude.{◌≡◌, ◌≤◌, max, length, IfErr, IfOk, IsTrue, false};
+ghost use Rattle.std.specs.Prelude.{◌≡◌, ◌+◌, ◌-◌, ◌<◌, ◌≤◌, ◌^◌, max, length, IfErr, IfOk, IsTrue, false};
 ghost use Rattle.tib_cost.specs.declared.Scale.TheVariants.{Unweighted};
 ghost use Rattle.tib_grammar.specs.GrammarOf.{GrammarOf};
+ghost use Rattle.tib_grammar.specs.Range.{AreInRange, SidesEndInHoles};
 ghost use Rattle.tib_grammar_file.specs.Printable.{ArePrintable};
 ghost use Rattle.tib_expand.specs.Limits.{IfTooMany};
 ghost use Rattle.tib_expand.specs.Reached.{IsBeyond};
 ghost use Rattle.tib_canon.specs.Constructions.{HasReachedWithin};
 ghost use Rattle.tib_determinize.specs.Answered.{HasParts, IsAnswer};
 ghost use Rattle.tib_determinize.specs.Determinization.{determinization};
+ghost use Rattle.tib_determinize.specs.Started.{started};
 ghost use Rattle.tib_trim.specs.TrimmedFile.{IsTrimmedFile};
 ghost use Rattle.tib_count.specs.Counts.{IsCountOf, IsEndless};
 ghost use Rattle.tib_count.specs.Counted.{HaveRuns, IsRun, IsTree};
@@ -18,7 +20,6 @@ ghost use Rattle.tib_operations.specs.Made.{IsLimit, IsMadeFault};
 
 use crate::copies::copied;
 use crate::counted::counted_text;
-use crate::determinize::canonical_of_vectors;
 use std::alloc::{AllocError, Global};
 use std::sync::Wait;
 use std::thread::Threads;
@@ -29,7 +30,8 @@ use tib_count::laws::{
     trimmed_keeps_runs,
 };
 use tib_count::{Count, count_runs};
-use tib_determinize::Vector;
+use tib_determinize::laws::{same_series, started_is_deterministic};
+use tib_determinize::{Vector, started_rules};
 use tib_expand::{Found, Gate, HuntError};
 use tib_grammar::{Grammar, Rule};
 use tib_io::{Failed, GrowingSink};
@@ -91,9 +93,24 @@ fn is_endless(alloc: Global, form: &Normal<Boolean>) -> Result<bool, AllocError>
     }
 }
 
+// How many runs there are from a fresh start to the vectors that a hunt returned.
+fn runs_of_vectors(alloc: Global, found: Found<Vector, Rule<u32>>) -> Result<Count, AllocError>
+    requires few { length found.order.items < 2 ^ 32 - 1 }
+    requires range { AreInRange (length found.order.items) found.rules.items }
+    requires leaves { SidesEndInHoles found.rules.items }
+    requires started { AreInRange (1 + length found.order.items) (started found.order.items
+        found.rules.items) }
+    requires runs { HaveRuns (started found.order.items found.rules.items) }
+    ensures { IfOk result (IsCountOf (IsRun (started found.order.items found.rules.items))) }
+{
+    let Found { order, rules, .. } = found;
+    let all = started_rules(alloc, &order, rules)?;
+    count_runs(alloc, order.len() + 1, &all)
+}
+
 // How many trees a grammar in trimmed normal form has, by the vectors of its states that a hunt
-// returned: as many as the canonical grammar of these has runs. Otherwise the status with which the
-// run ends.
+// returned: as many as these have runs from a fresh start. Otherwise the status with which the run
+// ends.
 fn trees_of_vectors(
     alloc: Global,
     form: &Normal<Boolean>,
@@ -107,7 +124,6 @@ fn trees_of_vectors(
     requires parts { IfOk hunted (HasParts max form.now.rules) }
     requires within { IfOk hunted (λ f. f.parts ≤ limit) }
     requires few { IfOk hunted (λ f. length f.order.items ≤ limit) }
-    requires few_rules { IfOk hunted (λ f. length f.rules.items ≤ limit) }
     requires more { IfErr hunted (IfTooMany limit (IsBeyond
         (determinization max form.now.rules) limit)) }
     ensures trees { IfOk result (λ trees. IsCountOf (IsTree form.now.rules) trees) }
@@ -116,15 +132,17 @@ fn trees_of_vectors(
     ensures err { IfErr result (IsMadeFault (IsBeyond (determinizing max form.now).problem limit)
         limit) }
 {
-    let canonical = match canonical_of_vectors::<Boolean>(alloc, form, labels, limit, hunted) {
-        Ok(canonical) => canonical,
-        Err(status) => return Err(status),
+    form.grammar();
+    let found = match hunted {
+        Ok(found) => found,
+        Err(HuntError::TooMany { .. }) => return Err(Status::TooMany { limit }),
+        Err(HuntError::OutOfMemory) => return Err(Status::OutOfMemory),
     };
-    forms_have_runs::<Boolean>();
+    same_series::<Boolean>();
+    started_is_deterministic::<Boolean>();
     trees_of_deterministic();
     same_trees();
-    canonical.grammar.is_sound();
-    match runs_of(alloc, &canonical.grammar) {
+    match runs_of_vectors(alloc, found) {
         Ok(runs) => Ok(runs),
         Err(AllocError) => Err(Status::OutOfMemory),
     }
@@ -155,8 +173,8 @@ fn text_of(
 /// and how many trees these yield. `TooMany` only where the normal form has more parts than the
 /// limit, or where the trees are not endlessly many and the reached set of vectors has; otherwise
 /// `OutOfMemory`. The time is that of `trimmed`, of the normal form, and of `count_runs` for both;
-/// where the trees are not endlessly many, also that of `determinization_of`, and of `count_runs`
-/// for what it returns.
+/// where the trees are not endlessly many, also that of the edges of the vectors that are reached,
+/// and of `count_runs` for these.
 pub fn count_of<G: Gate>(
     alloc: Global,
     grammar: &Grammar<Boolean>,

@@ -20,7 +20,7 @@ use tib_canon::{
 };
 use tib_cost::Semiring;
 use tib_determinize::laws::{same_series, started_is_deterministic};
-use tib_determinize::{Residuals, Vector};
+use tib_determinize::{Vector, final_positions};
 use tib_expand::{Found, Gate, HuntError};
 use tib_grammar::{Grammar, Rule};
 use tib_grammar_file::printable_is_labelled;
@@ -32,16 +32,11 @@ use tib_tree::Labels;
 
 // Where the fresh start leads: each position whose vector has the grammar's start, at the residual
 // there.
-fn finals_of<S: Semiring>(
-    alloc: Global,
-    form: &Normal<S>,
-    order: &[Vector],
-) -> Result<Finals, AllocError>
+fn finals_of(alloc: Global, order: &[Vector]) -> Result<Finals, AllocError>
     requires { length order.now < 2 ^ 32 }
     ensures { IfOk result (λ f. f ≡ finals 0 order.now) }
 {
-    let residuals = Residuals::new(alloc, form)?;
-    let pairs = residuals.finals(alloc, order)?;
+    let pairs = final_positions(alloc, order)?;
     Ok(Finals::new(pairs))
 }
 
@@ -78,7 +73,7 @@ pub(crate) fn canonical_of_vectors<S: Semiring + Drop>(
         Err(HuntError::TooMany { .. }) => return Err(Status::TooMany { limit }),
         Err(HuntError::OutOfMemory) => return Err(Status::OutOfMemory),
     };
-    let Ok(finals) = finals_of::<S>(alloc, form, &found.order) else {
+    let Ok(finals) = finals_of(alloc, &found.order) else {
         return Err(Status::OutOfMemory);
     };
     same_series::<S>();

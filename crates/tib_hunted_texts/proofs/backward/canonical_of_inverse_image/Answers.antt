@@ -1,5 +1,5 @@
 use Rattle.std.proofs.Common.{ℕ, List, refl, arith, subst, sym}
-use Rattle.std.proofs.lemmas.Result.{IfOk-at_ok, IfErr-at_err}
+use Rattle.std.proofs.lemmas.Result.{IfOk-at_ok}
 use Rattle.tib_grammar_file.specs.GrammarText.{GrammarText}
 use Rattle.tib_apply.specs.Backward.{IsBackwardEdge}
 use Rattle.tib_apply.proofs.Reached.{reached_grammar}

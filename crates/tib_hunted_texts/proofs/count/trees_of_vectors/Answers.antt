@@ -1,22 +1,42 @@
-use Rattle.tib_cost.specs.declared.Scale.TheVariants.{Unweighted}
-use Rattle.tib_count.specs.Laws.{AreFree}
-use Rattle.tib_grammar_file.proofs.Plain.{read_plain}
-use Rattle.tib_operations.proofs.OfForms.{are_free}
-use Rattle.tib_hunted_texts.proofs.Counting.{canonical_runs}
+use Rattle.std.proofs.Common.{max, ℕ, ◌≤◌, subst}
+use Rattle.std.proofs.lemmas.Result.{IfOk-at_ok}
+use Rattle.tib_determinize.specs.Answered.{IsAnswer}
+use Rattle.tib_determinize.specs.Started.{IsWellStarted}
+use Rattle.tib_hunted_texts.proofs.VectorRuns.{started_have_runs, vectors_are, runs_are_trees}
 use Rattle.tib_hunted_texts.proofs.count.trees_of_vectors.Goals as goal
 
-pub runs_of-requires : goal.runs_of-requires
-runs_of-requires c =
-    canonical_runs c.forms_have_runs.ensures.canonical c.args.labels.now c.args.limit c.args.form.now c.in-Ok.canonical.grammar c.in-Ok.ensures.canonical
+pub runs_of_vectors-requires-clause-leaves : goal.runs_of_vectors-requires-clause-leaves
+runs_of_vectors-requires-clause-leaves c =
+    let found = c.in-Ok.found in
+    let form = c.args.form.now in
+    let answer : IsAnswer max form.rules found = IfOk-at_ok _ c.in-Ok.is c.requires.determinized in
+    let well : IsWellStarted found.order.items found.rules.items = c.started_is_deterministic.ensures form.rules found.order.items found.rules.items answer in
+    (vectors_are form c.grammar.ensures.normal.normal found.order.items found.rules.items answer well c.args.labels.now c.requires.form).leaves
 
-pub returns-in-Ok-runs_of-clause-trees : goal.returns-in-Ok-runs_of-clause-trees
-returns-in-Ok-runs_of-clause-trees c =
-    let free : AreFree c.in-Ok.canonical.grammar.rules = are_free c.args.labels.now c.in-Ok.canonical.grammar.rules (read_plain Unweighted c.args.labels.now c.in-Ok.canonical.text.bytes c.in-Ok.canonical.grammar c.in-Ok.ensures.read) in
-    c.same_trees.ensures.many c.in-Ok.canonical.grammar.rules c.args.form.now.rules free (are_free c.args.labels.now c.args.form.now.rules c.requires.form)
-    (λ t v. ((c.in-Ok.ensures.means.series t v).1, (c.in-Ok.ensures.means.series t v).0)) c.in-Ok-runs_of.runs
-    (c.trees_of_deterministic.ensures c.in-Ok.canonical.grammar.rules c.is_sound.ensures.leaves c.in-Ok.ensures.means.deterministic c.in-Ok-runs_of.runs c.in-Ok-runs_of.ensures)
+pub runs_of_vectors-requires-clause-runs : goal.runs_of_vectors-requires-clause-runs
+runs_of_vectors-requires-clause-runs c =
+    let found = c.in-Ok.found in
+    let form = c.args.form.now in
+    let answer : IsAnswer max form.rules found = IfOk-at_ok _ c.in-Ok.is c.requires.determinized in
+    let well : IsWellStarted found.order.items found.rules.items = c.started_is_deterministic.ensures form.rules found.order.items found.rules.items answer in
+    started_have_runs form c.grammar.ensures.normal.normal found.order.items found.rules.items answer well
 
-pub returns-in-Ok-runs_of-clause-within : goal.returns-in-Ok-runs_of-clause-within
-returns-in-Ok-runs_of-clause-within c =
-    let canonical = c.in-Ok.ensures.canonical in
-    record { order = canonical.order; edges = _; reached = canonical.reached; within = canonical.within }
+pub returns-in-Ok-runs_of_vectors-clause-trees : goal.returns-in-Ok-runs_of_vectors-clause-trees
+returns-in-Ok-runs_of_vectors-clause-trees c =
+    let found = c.in-Ok.found in
+    let form = c.args.form.now in
+    let answer : IsAnswer max form.rules found = IfOk-at_ok _ c.in-Ok.is c.requires.determinized in
+    let well : IsWellStarted found.order.items found.rules.items = c.started_is_deterministic.ensures form.rules found.order.items found.rules.items answer in
+    runs_are_trees form c.grammar.ensures.normal.normal found.order.items found.rules.items answer well c.args.labels.now c.requires.form c.same_series.ensures c.trees_of_deterministic.ensures c.same_trees.ensures.many
+    c.in-Ok-runs_of_vectors.runs c.in-Ok-runs_of_vectors.ensures
+
+pub returns-in-Ok-runs_of_vectors-clause-within : goal.returns-in-Ok-runs_of_vectors-clause-within
+returns-in-Ok-runs_of_vectors-clause-within c =
+    let found = c.in-Ok.found in
+    let answer : IsAnswer max c.args.form.now.rules found = IfOk-at_ok _ c.in-Ok.is c.requires.determinized in
+    record {
+      order = found.order.items;
+      edges = _;
+      reached = answer.reached;
+      within = subst (λ (n : ℕ). n ≤ c.args.limit) (IfOk-at_ok _ c.in-Ok.is c.requires.parts) (IfOk-at_ok _ c.in-Ok.is c.requires.within);
+    }

@@ -1,8 +1,7 @@
-use Rattle.std.proofs.Common.{◌≡◌, ℕ, ◌+◌, ◌<◌, ◌≤◌, List, length, ap, sym, ◌∙◌, subst, arith}
+use Rattle.std.proofs.Common.{ℕ, ◌≤◌, List, length, ap, ◌∙◌, subst, arith}
 use Rattle.tib_lex.specs.Limits.{most_bytes}
 use Rattle.tib_canon.proofs.Within.{distinct_texts}
 use Rattle.tib_grammar_file.specs.Read.{ReadsAs}
-use Rattle.tib_operations.specs.Demo.{demo_text}
 use Rattle.tib_operations.proofs.DemoText.{demo_short, demo_faultless}
 use Rattle.tib_hunted_texts.proofs.demo.demo_grammar.Goals as goal
 

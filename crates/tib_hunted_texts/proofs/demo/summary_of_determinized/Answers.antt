@@ -1,6 +1,5 @@
 use Rattle.std.proofs.lemmas.Result.{IfOk-at_ok, IfErr-at_err}
-use Rattle.tib_operations.specs.Demo.{HasSummary}
-use Rattle.tib_operations.specs.Determinize.{IsDeterminizedText, determinize_makes}
+use Rattle.tib_operations.specs.Determinize.{IsDeterminizedText}
 use Rattle.tib_operations.proofs.OfDemo.{fault_of_best, fault_of_made, lines_are}
 use Rattle.tib_hunted_texts.proofs.demo.summary_of_determinized.Goals as goal
 

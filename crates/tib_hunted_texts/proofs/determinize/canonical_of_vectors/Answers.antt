@@ -1,13 +1,11 @@
 use Rattle.std.proofs.Common.{◌≡◌, ℕ, ◌<◌, ◌≤◌, List, length, arith, ap, sym, ◌∙◌, subst}
-use Rattle.std.proofs.lemmas.Result.{IfOk-at_ok, IfErr-at_err}
+use Rattle.std.proofs.lemmas.Result.{IfOk-at_ok}
 use Rattle.tib_lex.specs.Lists.{Each}
 use Rattle.tib_grammar_file.specs.GrammarText.{GrammarText}
 use Rattle.tib_grammar_file.specs.Printable.{IsPlainCost}
 use Rattle.tib_canon.specs.declared.begin.Begin.TheVariants.{Fresh}
 use Rattle.tib_canon.proofs.Started.{started_long, started_printable}
-use Rattle.tib_expand.specs.Reached.{IsBeyond}
 use Rattle.tib_determinize.specs.Answered.{IsAnswer}
-use Rattle.tib_determinize.specs.Determinization.{determinization}
 use Rattle.tib_determinize.specs.Started.{finals}
 use Rattle.tib_determinize.proofs.Found.{order_once}
 use Rattle.tib_operations.proofs.OfDeterminize.{vectors_over, vectors_mean}

@@ -4,7 +4,7 @@ use Rattle.tib_grammar.specs.Range.{AreInRange}
 use Rattle.tib_inside.specs.Inside.{AreInsides}
 use Rattle.tib_apply.specs.Forward.{IsForwardEdge}
 use Rattle.tib_apply.proofs.Reached.{reached_grammar}
-use Rattle.std.proofs.lemmas.Result.{IfOk-at_ok, IfErr-at_err}
+use Rattle.std.proofs.lemmas.Result.{IfOk-at_ok}
 use Rattle.tib_grammar_file.specs.GrammarText.{GrammarText}
 use Rattle.tib_canon.specs.declared.begin.Begin.TheVariants.{At}
 use Rattle.tib_canon.proofs.ConstructionExists.{found_over}
