@@ -263,6 +263,29 @@ def monadic(states, seed):
     return lines
 
 
+def backward_deterministic(states, seed):
+    """A grammar of words that is deterministic as they are read from their end: each of five letters leads from each state
+    to one."""
+    random.seed(seed)
+    lines = ["s0"]
+    for letter in "abcde":
+        lines += ["s%d -> %s(s%d) # %d" % (random.randrange(states), letter, state, random.randrange(10)) for state in range(states)]
+    return lines + ["s%d -> e" % random.randrange(states)]
+
+
+def mallard():
+    """Two versions of a schema as grammars, each with the names of the other, where the schemas are installed."""
+    schemas = ["/usr/share/xml/mallard/%s/mallard-%s.rng" % (it, it) for it in ("1.0", "1.1")]
+    if not all(map(os.path.exists, schemas)):
+        return []
+    converter = os.path.join(os.path.dirname(__file__), "..", "tools", "from-relaxng")
+    paths = []
+    for schema, other in zip(schemas, reversed(schemas)):
+        made = subprocess.run([sys.executable, converter, "--names", other, schema], capture_output=True, text=True, check=True).stdout
+        paths.append(write(os.path.basename(schema) + ".grammar", made.splitlines()))
+    return paths
+
+
 def turning_words(states, seed):
     """A transducer of words: each state has three rules that turn one letter of five into one of five and go on in a state, the
     start one for each letter that it reads, and one state in eight has an end."""
@@ -383,13 +406,17 @@ def reading_transducer(rules, states=20000):
 
 def as_automata(first, second):
     """Writes two grammars of words as sorted automata of OpenFst, the second without weights and deterministic, as
-    `fstdifference` wants it, and returns their paths."""
+    `fstdifference` wants it, and returns their paths. The leaf `e`, which is a letter too, is the end mark."""
     symbols = write("letters.symbols", ["%s %d" % it for it in (("<eps>", 0), *zip("abcde", range(1, 6)))])
     paths = []
     for grammar, more in ((first, ""), (second, "fstmap --map_type=rmweight | fstdeterminize |")):
+        with open(grammar) as lines:
+            marked = write(os.path.basename(grammar) + ".marked", re.sub(r"(?m)-> e(?= #|$)", "-> end", lines.read()).splitlines())
         paths.append(grammar + ".fst")
-        words = (sys.executable, os.path.join(os.path.dirname(__file__), "..", "tools", "to-fst"), grammar, symbols, paths[-1])
-        subprocess.run(["sh", "-c", "\"$0\" \"$1\" --acceptor --end e \"$2\" | fstcompile --acceptor --isymbols=\"$3\" | %s fstarcsort >\"$4\"" % more, *words], check=True)
+        converter = os.path.join(os.path.dirname(__file__), "..", "tools", "to-fst")
+        words = (sys.executable, converter, marked, symbols, paths[-1])
+        pipe = "set -o pipefail; \"$0\" \"$1\" --acceptor --end end \"$2\" | fstcompile --acceptor --isymbols=\"$3\" | %s fstarcsort >\"$4\"" % more
+        subprocess.run(["bash", "-c", pipe, *words], check=True)
     return paths
 
 
@@ -528,6 +555,15 @@ def main(program):
             row("  fstdifference of two of %d states, the second deterministic" % states, measure("fstdifference", *as_automata(*pair)), states / 1e6, "million states/s")
     measured = measure(program, "difference", *two)
     row("difference of two of 800 states (status %d)" % measured[2], measured, 20, "million parts/s")
+    turned = [two[0], write("backward800.grammar", backward_deterministic(800, 2))]
+    for words in ("difference", "intersect"):
+        made = subprocess.run([program, words, *turned], capture_output=True, check=False).stdout.splitlines()
+        row("%s of 800 states and 800, deterministic from the end: %d rules" % (words, len(made) - 1), measure(program, words, *turned), (len(made) - 1) / 1e6, "million rules/s")
+    versions = mallard()
+    for words, files in (("compare", versions), ("difference", versions), ("difference", versions[::-1])):
+        if files:
+            names = " and ".join(os.path.basename(it)[:11] for it in files)
+            row("%s of the schemas %s" % (words, names), measure(program, "-m", "boolean", words, *files), 1, "pairs/s")
 
     for name, made in (("in 200,000 rounds of one", long_words(200000)), ("in 18 rounds", wide_words(200000))):
         grammar = write("words.grammar", made)
