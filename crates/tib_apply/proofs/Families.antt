@@ -15,12 +15,12 @@ use Rattle.tib_apply.specs.Backward.{IsBackwardCost, IsBackwardSeries}
 use Rattle.tib_apply.specs.LeastOfAll.{IsLeastOfAll}
 
 -- a known least is at most each member that is a cost
-least_some : {S : ℕ → Type 0} (v : Option ℕ) → IsLeast S v → (c : ℕ) → S c → c ≤ most → (m : ℕ) × (v ≡ Some m) × (m ≤ c)
+pub least_some : {S : ℕ → Type 0} (v : Option ℕ) → IsLeast S v → (c : ℕ) → S c → c ≤ most → (m : ℕ) × (v ≡ Some m) × (m ≤ c)
 least_some None h c s b = absurd (h.lower c s b)
 least_some (Some m) h c s b = (m, refl, h.lower c s b)
 
 -- and is a member
-least_is : {S : ℕ → Type 0} (v : Option ℕ) → IsLeast S v → (m : ℕ) → v ≡ Some m → S m
+pub least_is : {S : ℕ → Type 0} (v : Option ℕ) → IsLeast S v → (m : ℕ) → v ≡ Some m → S m
 least_is {S} v h m e = (subst (IsLeast S) e h).attained.0
 
 family :

@@ -31,8 +31,9 @@ use Rattle.tib_match.proofs.Steps.{one_of, mix, count-costs, three_within, withi
 use Rattle.tib_match.proofs.Matching.{matched, filled, match_long}
 use Rattle.tib_transducer.proofs.Itemizing.{one_more, one_run, joined}
 use Rattle.tib_apply.proofs.Restricting.{AreAdmitted, are_listed}
-use Rattle.tib_apply.proofs.Leaves.{root_label, count-bound, picked_admitted}
+use Rattle.tib_apply.proofs.Leaves.{root_label, picked_admitted}
 use Rattle.tib_apply.proofs.Asking.{part, whole}
+use Rattle.tib_transducer.proofs.Counting.{count-bound}
 
 module _
     {levelled weighted : Bool} {product : ℕ → ℕ → ℕ} (laws : ProductLaws levelled weighted product)

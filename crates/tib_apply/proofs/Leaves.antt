@@ -15,21 +15,7 @@ use Rattle.tib_transducer.specs.declared.Variable.{Variable}
 use Rattle.tib_transducer.specs.declared.Pair.{Pair}
 use Rattle.tib_apply.specs.Backward.{states_at}
 use Rattle.tib_lex.proofs.Numbers.{nat_eq_cases}
-
--- the number of a variable is its place
-pub number_at : (xs : List Variable) (n i : ℕ) → AreNumbered n xs → i < length xs → (get_or xs i no_variable).number ≡ n + i
-number_at [] n i a b = absurd (omega arith)
-number_at (x ∷ xs) n zero a b = omega (arith, a.0)
-number_at (x ∷ xs) n (suc i) a b = omega (arith, number_at xs (suc n) i a.1 (omega arith))
-
--- the number of a variable of a left-hand side is its place
-pub place_number : (xs : List Variable) (i : ℕ) → AreNumbered 0 xs → i < length xs → (get_or xs i no_variable).number ≡ i
-place_number xs i a b = omega (arith, number_at xs 0 i a b)
-
--- where each variable is among some numbers, each place is
-pub all_stand : (xs : List Variable) (vars : List ℕ) → AreNumbered 0 xs → Each (λ x. Has vars x.number) xs → (i : ℕ) → i < length xs → Has vars i
-all_stand xs vars a h i b =
-    subst (Has vars) (place_number xs i a b) (each_has (λ x. Has vars x.number) xs (get_or xs i no_variable) h (has_at xs i no_variable b))
+use Rattle.tib_transducer.proofs.Counting.{number_at, place_number}
 
 -- of pairs with distinct variables each is found by its variable
 pub pairs_along :
@@ -84,13 +70,6 @@ below_at n (k ∷ ks) (suc i) a h = below_at n ks i a.1 (omega arith)
 pub all_below : (n : ℕ) (ks is : List ℕ) → AllBelow n ks → Each (λ i. i < length ks) is → AllBelow n (map (λ i. get_or ks i 0) is)
 all_below n ks [] a e = tt
 all_below n ks (i ∷ is) a e = (below_at n ks i a e.0, all_below n ks is a e.1)
-
--- as many trees are bound as there are variables
-pub count-bound : (xs : List Variable) (args : Trees ℕ) → AreBound xs args → count args ≡ length xs
-count-bound [] none b = refl
-count-bound [] (tree f kids rest) b = absurd b
-count-bound (x ∷ xs) none b = absurd b
-count-bound (x ∷ xs) (tree f kids rest) b = ap suc (count-bound xs rest b.1)
 
 -- the trees at some variables are admitted by the restrictions of these
 pub picked_admitted :

@@ -33,7 +33,8 @@ use Rattle.tib_match.proofs.Matching.{matched, filled, match_long}
 use Rattle.tib_transducer.proofs.Selecting.{Item, keys_of, trees_of, product_of, stays, selected, selected-keys, selected-trees, selected-each, stays-keys, all_named, parted, keys_long, trees_long}
 use Rattle.tib_transducer.proofs.Itemizing.{restore, one_more, one_run, joined, count-outputs}
 use Rattle.tib_apply.proofs.Restricting.{IsListed, AreAdmitted, are_listed, binds}
-use Rattle.tib_apply.proofs.Leaves.{place_number, all_stand, pairs_along, count-bound, root_label, map_same_at, get_map, map_long, each_to, all_below, picked_admitted}
+use Rattle.tib_apply.proofs.Leaves.{pairs_along, root_label, map_same_at, get_map, map_long, each_to, all_below, picked_admitted}
+use Rattle.tib_transducer.proofs.Counting.{place_number, all_stand, count-bound}
 
 module _
     {levelled weighted : Bool} {product : ℕ → ℕ → ℕ} (laws : ProductLaws levelled weighted product)

@@ -29,7 +29,7 @@ use Rattle.tib_canon.specs.Constructions.{HasReachedWithin}
 use Rattle.tib_canon.proofs.ConstructionExists.{few_keys}
 use Rattle.tib_canon.proofs.ReachedOnce.{edge_given, ends_stand}
 use Rattle.tib_canon.proofs.SeriesByName.{one_series, text_states, canonical_states}
-use Rattle.tib_canon.proofs.Sorting.{both_equal, number_same}
+use Rattle.tib_canon.proofs.Sorting.{number_same}
 use Rattle.tib_key_edges.specs.Plain.{ArePlain}
 use Rattle.tib_key_edges.specs.Translations.{plug, AreTranslations, translated, choice_cost}
 use Rattle.tib_key_edges.specs.Composing.{IsComposeEdge, IsComposite}
@@ -43,6 +43,7 @@ use Rattle.tib_canon.specs.TransducerConstructions.{IsCanonicalTransducerOf}
 use Rattle.tib_canon.specs.TransducerKeys.{AreMovesOver}
 use Rattle.tib_canon.proofs.TransducerConstruct.{IsPlainOn, IsMoveOverKeys, IsPlainTransducerConstruction, transducer_construction_there}
 use Rattle.tib_canon.proofs.TransducerOverKeys.{canonical_series}
+use Rattle.tib_lex.proofs.PairOrder.{both_equal}
 
 -- labels that are plain
 

@@ -14,10 +14,11 @@ use Rattle.tib_grammar.specs.StateName.{AreStateNames}
 use Rattle.tib_grammar.specs.declared.Rule.{Rule}
 use Rattle.tib_canon.specs.Canonical.{names_of, line_of, rule_cmp, AgreeInSides, HasSides, IsInOrder}
 use Rattle.tib_canon.proofs.InOrder.{agree_back, agree_on}
-use Rattle.tib_canon.proofs.Sorting.{turned, both_equal, number_same, text_same}
+use Rattle.tib_canon.proofs.Sorting.{turned, number_same, text_same}
 use Rattle.tib_canon.proofs.Telling.{IsSafe, told_by_line}
 use Rattle.tib_lex.proofs.Members.{each_has, each_of}
 use Rattle.tib_canon.proofs.CheapestExist.{least_there}
+use Rattle.tib_lex.proofs.PairOrder.{both_equal}
 
 -- Of rules that agree in both sides one of the cheapest.
 

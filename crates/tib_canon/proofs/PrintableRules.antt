@@ -26,7 +26,7 @@ use Rattle.tib_lex.proofs.Members.{has_at, at_has, has_either}
 
 -- a rule can be printed if it can with other states
 
-plain_back : (labels : List (List ℕ)) (f : ℕ → ℕ) (ts : Trees (Symbol ℕ ℕ)) → HavePlainLabels labels (relabel (symbol_map f) ts) → HavePlainLabels labels ts
+pub plain_back : (labels : List (List ℕ)) (f : ℕ → ℕ) (ts : Trees (Symbol ℕ ℕ)) → HavePlainLabels labels (relabel (symbol_map f) ts) → HavePlainLabels labels ts
 plain_back labels f none h = tt
 plain_back labels f (tree (label g) kids rest) h = (h.0, h.1, plain_back labels f kids h.2, plain_back labels f rest h.3)
 plain_back labels f (tree (hole q) kids rest) h = (plain_back labels f kids h.0, plain_back labels f rest h.1)
@@ -69,7 +69,7 @@ module _ (scale : Scale) (labels : List (List ℕ)) where
 
 -- normal forms
 
-plain_nothing : (scale : Scale) → IsPlainCost scale 0
+pub plain_nothing : (scale : Scale) → IsPlainCost scale 0
 plain_nothing scales.Plain = omega arith
 plain_nothing scales.Reversed = omega arith
 plain_nothing scales.Unweighted = refl

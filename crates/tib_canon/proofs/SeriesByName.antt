@@ -38,6 +38,7 @@ use Rattle.tib_canon.proofs.StateNames.{length-names_of, are_state_names}
 use Rattle.tib_canon.proofs.TransducerKeysOnce.{member_is}
 use Rattle.tib_canon.proofs.TransducerNamed.{move_back}
 use Rattle.tib_canon.proofs.TransducerOverKeys.{moves_over, start_within, many_names}
+use Rattle.tib_grammar_file.proofs.SomeText.{one_distinct}
 
 -- states that are exchanged twice are exchanged at once
 module _ {P Q R : Type 0} (f : P → Q) (g : Q → R) (h : P → R) where
@@ -124,10 +125,6 @@ module _ (t u : TransducerOf) (a : HasNamedStates t) (b : HasNamedStates u) (sam
       )
 
 -- the states of a transducer that a text is of
-
-one_distinct : (before : List (List ℕ)) (text : List ℕ) (now : List (List ℕ)) → Adds before text now → Distinct before → Distinct now
-one_distinct before text now (inl (held, same)) d = subst (λ (ts : List (List ℕ)). Distinct ts) (sym same) d
-one_distinct before text now (inr (new, same)) d = subst (λ (ts : List (List ℕ)). Distinct ts) (sym same) (distinct_more before text d (λ h. new (has_contains before text h)))
 
 all_distinct : (before texts now : List (List ℕ)) → AddsAll before texts now → Distinct before → Distinct now
 all_distinct before [] now same d = subst (λ (ts : List (List ℕ)). Distinct ts) (sym same) d

@@ -10,6 +10,7 @@ use Rattle.std.proofs.lemmas.Cmp.{ranked, on_total, then_total, nat_cmp_total, n
 use Rattle.std.proofs.lemmas.List.Sorted.{ranks_by, sorted_far}
 use Rattle.tib_canon.specs.LineOrder.{text_cmp, line_cmp, lines_total_order}
 use Rattle.tib_canon.specs.declared.lines.Line.{Line}
+use Rattle.tib_lex.proofs.PairOrder.{both_equal, less_goes_on}
 
 text_total : IsTotalOrder text_cmp
 text_total = then_total (on_total (λ (x : Line). x.left) nat_cmp_total) (on_total (λ (x : Line). x.text.now) nat_list_cmp_total)
@@ -18,11 +19,6 @@ pub turned : (o : Ordering) → Greater ≡ ordering_reverse o → o ≡ Less
 turned Less e = refl
 turned Equal e = absurd (cc)
 turned Greater e = absurd (cc)
-
-pub both_equal : (a b : Ordering) → ordering_then a b ≡ Equal → (a ≡ Equal) × (b ≡ Equal)
-both_equal Less b e = absurd (cc)
-both_equal Equal b e = (refl, e)
-both_equal Greater b e = absurd (cc)
 
 pub number_same : (a b : ℕ) → nat_cmp a b ≡ Equal → a ≡ b
 number_same a b e = ranked a b Equal (sym e)
@@ -34,13 +30,6 @@ text_same (x ∷ xs) [] e = absurd (cc)
 text_same (x ∷ xs) (y ∷ ys) e =
     let t = both_equal (nat_cmp x y) (slice_cmp nat_cmp xs ys) e in
     ap (λ (z : ℕ). z ∷ xs) (number_same x y t.0) ∙ ap (λ (zs : List ℕ). y ∷ zs) (text_same xs ys t.1)
-
-less_goes_on : (a b c : Ordering) → ordering_then a b ≡ Less → is_lt (ordering_then a (ordering_then b c)) ≡ true
-less_goes_on Less b c e = refl
-less_goes_on Equal Less c e = refl
-less_goes_on Equal Equal c e = absurd (cc)
-less_goes_on Equal Greater c e = absurd (cc)
-less_goes_on Greater b c e = absurd (cc)
 
 -- of two lines in order the first is less, or they are the same
 in_turn : (x y : Line) → is_lt (line_cmp y x) ≡ false → (text_cmp x y ≡ Less) ⊎ ((x.left ≡ y.left) × (x.text.now ≡ y.text.now))

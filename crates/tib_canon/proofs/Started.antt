@@ -37,7 +37,7 @@ labels_on n f none h = tt
 labels_on n f (tree (label g) kids rest) h = (h.0, labels_on n f kids h.1, labels_on n f rest h.2)
 labels_on n f (tree (hole q) kids rest) h = labels_on n f rest h
 
-plain_on : (labels : List (List ℕ)) (f : ℕ → ℕ) (ts : Trees (Symbol ℕ ℕ)) → HavePlainLabels labels ts → HavePlainLabels labels (relabel (symbol_map f) ts)
+pub plain_on : (labels : List (List ℕ)) (f : ℕ → ℕ) (ts : Trees (Symbol ℕ ℕ)) → HavePlainLabels labels ts → HavePlainLabels labels (relabel (symbol_map f) ts)
 plain_on labels f none h = tt
 plain_on labels f (tree (label g) kids rest) h = (h.0, h.1, plain_on labels f kids h.2, plain_on labels f rest h.3)
 plain_on labels f (tree (hole q) kids rest) h = (plain_on labels f kids h.0, plain_on labels f rest h.1)
@@ -151,13 +151,6 @@ module _ (finals : List (ℕ × ℕ)) where
 
     pub started_range : (rules : List (Rule ℕ)) → AreInRange n rules → AreInRange (suc n) (started_rules finals rules)
     started_range rules range = started_at (IsInRange n) (IsInRange (suc n)) rules chain_in_range next_in_range range
-
--- the items of a tree are not refused
-pub no_fault :
-    {T : Type 0} (r : Result T ShapeError) (Is : Side ℕ ℕ → Type 0) (e : ShapeError) → r ≡ Err e → (r ≡ Err NotATree → (s : Side ℕ ℕ) → Is s → ⊥) → (r ≡ Err OutOfMemory → ⊥) →
-    (s : Side ℕ ℕ) → Is s → ⊥
-no_fault r Is NotATree at not_a_tree no_memory s is = not_a_tree at s is
-no_fault r Is OutOfMemory at not_a_tree no_memory s is = no_memory at
 
 pub started_long : (finals : List (ℕ × ℕ)) (rules : List (Rule ℕ)) → length (started_rules finals rules) ≡ length finals + length rules
 started_long finals rules = omega (arith, length-append (map chain_to finals) (map (named_rule suc) rules), length-map finals chain_to, length-map rules (named_rule suc))

@@ -8,11 +8,11 @@ use Rattle.tib_grammar.specs.declared.Item.{Item}
 use Rattle.tib_grammar.specs.declared.Item.TheVariants.{Label, Hole}
 use Rattle.tib_lex.proofs.Lists.{head_is, tail_is}
 use Rattle.tib_transducer.specs.declared.TransducerRule.{TransducerRule}
-use Rattle.tib_canon.proofs.TransducerTelling.{side_same}
 use Rattle.tib_canon.specs.Ordered.{AgreeInSides}
 use Rattle.tib_canon.specs.TransducerMerging.{Sides, no_sides, AreSidesOf, IsCheaper, HasCheaperAt, AreCheapest, IsChosenFor, IsChoosing, IsNoted}
 use Rattle.tib_lex.proofs.Members.{has_at, at_has, distinct_from}
 use Rattle.tib_canon.proofs.Chosen.{chosen_new, chosen_before}
+use Rattle.tib_grammar.proofs.Sides.{side_same}
 
 -- items with the same pairs are the same
 pairs_same : {P : Type 0} (xs ys : List (Item P)) → pairs_of xs ≡ pairs_of ys → xs ≡ ys

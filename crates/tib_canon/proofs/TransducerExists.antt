@@ -25,7 +25,7 @@ use Rattle.tib_canon.specs.Keys.{AreByKeys}
 use Rattle.tib_canon.proofs.OrderExists.{AreSortedOf, sorted_there, ascends_within}
 use Rattle.tib_canon.proofs.OverKeysExist.{over_there}
 use Rattle.tib_canon.proofs.PlacesIn.{place_in, stands_at}
-use Rattle.tib_canon.proofs.Sorting.{both_equal, number_same, text_same}
+use Rattle.tib_canon.proofs.Sorting.{number_same, text_same}
 use Rattle.tib_canon.proofs.StateNames.{length-names_of, are_state_names}
 use Rattle.tib_canon.proofs.CheapestExist.{least_there}
 use Rattle.tib_canon.specs.TransducerKeys.{IsTransducerOverKeys, IsCanonicalTransducer, AreMovesOver}
@@ -36,6 +36,7 @@ use Rattle.tib_canon.proofs.TransducerOne.{moves_total}
 use Rattle.tib_canon.proofs.TransducerOverKeys.{over_keys, moves_over}
 use Rattle.tib_canon.proofs.Sorted.{all_good, length-up, up_at}
 use Rattle.tib_canon.proofs.TransducerTelling.{told_by_line}
+use Rattle.tib_lex.proofs.PairOrder.{both_equal}
 
 -- of rules that agree one of the cheapest can be listed
 merged_there : (rules : List (TransducerRule ℕ)) → ((merged : List (TransducerRule ℕ)) → AreMerged rules merged → ⊥) → ⊥

@@ -26,6 +26,7 @@ use Rattle.tib_transducer_file.specs.ByName.{named_rule, line_text}
 use Rattle.tib_transducer_file.specs.Printed.{variable_text, pair_text, side_text, rule_text}
 use Rattle.tib_transducer_file.proofs.Fitting.{IsGood, LineOf, rule_line}
 use Rattle.tib_transducer_file.proofs.RulesBack.{rules_own}
+use Rattle.tib_grammar.proofs.Sides.{side_same}
 
 -- a rule is printed as its line and a line feed
 
@@ -76,14 +77,6 @@ holes_listed (tree (hole x) (tree s kids more) rest) h = absurd h
 
 one_listed : {P : Type 0} (s : Side ℕ P) → HolesAreLeaves (only s) → list_holes (preorder_of s) ≡ holes_of s
 one_listed {P} s h = ap (λ (ps : List (Symbol ℕ P × ℕ)). list_holes ((s.label, count s.kids) ∷ ps)) (sym (append-nil (preorder s.kids))) ∙ holes_listed (only s) h
-
--- sides with one preorder are the same
-pub side_same : {P : Type 0} (s t : Side ℕ P) → preorder_of s ≡ preorder_of t → s ≡ t
-side_same s t e =
-    let both : only s ≡ only t = sym (parse_of s) ∙ ap parse e ∙ parse_of t in
-    let labels : s.label ≡ t.label = cc both in
-    let kids : s.kids ≡ t.kids = cc both in
-    ap (λ x. record { label = x; kids = s.kids }) labels ∙ ap (λ ks. record { label = t.label; kids = ks }) kids
 
 -- two nodes that stand for one item are the same
 

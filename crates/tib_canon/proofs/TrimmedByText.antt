@@ -63,7 +63,7 @@ rules_commute p f (r ∷ rules) =
     ap (λ (x : Side ℕ ℕ). record { left = p r.left; right = x; cost = r.cost } ∷ map (named_rule p) (rules_with f rules)) (side_commutes p f r.right)
     ∙ ap (λ (xs : List (Rule ℕ)). rule_with f (named_rule p r) ∷ xs) (rules_commute p f rules)
 
-positions_with : (f : ℕ → ℕ) (rules : List (Rule ℕ)) (positions : List ℕ) → Each (λ n. n < length rules) positions → rules_with f (map (rule_at rules) positions) ≡ map (rule_at (rules_with f rules)) positions
+pub positions_with : (f : ℕ → ℕ) (rules : List (Rule ℕ)) (positions : List ℕ) → Each (λ n. n < length rules) positions → rules_with f (map (rule_at rules) positions) ≡ map (rule_at (rules_with f rules)) positions
 positions_with f rules [] e = refl
 positions_with f rules (n ∷ positions) e =
     ap (λ (x : Rule ℕ). x ∷ rules_with f (map (rule_at rules) positions)) (sym (at_with f rules n e.0)) ∙ ap (λ (xs : List (Rule ℕ)). rule_at (rules_with f rules) n ∷ xs) (positions_with f rules positions e.1)

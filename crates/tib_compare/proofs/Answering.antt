@@ -5,7 +5,7 @@ use Rattle.std.specs.declared.cmp.Ordering.TheVariants.{Less}
 use Rattle.tib_lex.specs.Lists.{Has}
 use Rattle.tib_tree.specs.Trees.{Tree, only, size, most_nodes}
 use Rattle.tib_tree.specs.Order.{tree_cmp_by}
-use Rattle.tib_grammar.specs.Run.{IsCost}
+use Rattle.tib_grammar.specs.Run.{IsCost, AreFree}
 use Rattle.tib_grammar.specs.Forms.{AreNormal}
 use Rattle.tib_grammar.specs.Range.{AreInRange}
 use Rattle.tib_grammar.specs.declared.Rule.{Rule}
@@ -15,7 +15,7 @@ use Rattle.tib_determinize.specs.Vectors.{VectorOf, vector_at}
 use Rattle.tib_determinize.specs.VectorGrammar.{IsVectorGrammar, IsDeterminized}
 use Rattle.tib_determinize.proofs.Found.{vector_grammar}
 use Rattle.tib_ranked_trees.specs.Best.{Costed, Cheaper, IsTreeAt, IsKBest}
-use Rattle.tib_compare.specs.Compared.{AreFree, HasCost, Agree, IsOnlyIn, IsInOne, IsLeastOnly, IsCompared, IsTooLarge, IsSmall}
+use Rattle.tib_compare.specs.Compared.{HasCost, Agree, IsOnlyIn, IsInOne, IsLeastOnly, IsCompared, IsTooLarge, IsSmall}
 use Rattle.tib_compare.specs.Beside.{beside}
 use Rattle.tib_compare.specs.Wanted.{differs, node_cost, wanted}
 use Rattle.tib_compare.specs.Least.{IsLeastWanted, IsOfList}

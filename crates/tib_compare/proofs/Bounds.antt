@@ -3,7 +3,7 @@ use Rattle.std.specs.Prelude.{◌≡◌, ℕ, ◌+◌, ◌*◌, ◌<◌, ◌≤�
 use Rattle.std.proofs.Common.{suc, arith, ap, sym, ◌∙◌, subst}
 use Rattle.tib_tree.specs.Trees.{Tree, Trees, none, tree, only, sizes}
 use Rattle.tib_grammar.specs.Sides.{holes}
-use Rattle.tib_grammar.specs.Run.{rule_at, IsCost}
+use Rattle.tib_grammar.specs.Run.{rule_at, IsCost, AreFree}
 use Rattle.tib_grammar.specs.Series.{IsSeriesAt}
 use Rattle.tib_grammar.specs.Forms.{AreNormal}
 use Rattle.tib_grammar.specs.declared.Rule.{Rule}
@@ -11,7 +11,7 @@ use Rattle.tib_grammar.proofs.NormalRuns.{none_to, no_states}
 use Rattle.tib_grammar.proofs.Best.{no_trees}
 use Rattle.tib_grammar.proofs.Opening.{open_cost}
 use Rattle.tib_cost.specs.Semiring.{boolean_laws, sum_laws, most}
-use Rattle.tib_compare.specs.Compared.{AreFree, HasCost}
+use Rattle.tib_compare.specs.Compared.{HasCost}
 
 module _ (rules : List (Rule ℕ)) (normal : AreNormal rules) where
   -- where no rule costs more than a number, no run does, by the greater cost

@@ -6,7 +6,7 @@ use Rattle.tib_lex.proofs.Booleans.{bool_cases}
 use Rattle.tib_lex.proofs.Numbers.{nat_eq_cases}
 use Rattle.tib_tree.specs.Trees.{Tree, only}
 use Rattle.tib_grammar.specs.Sides.{label, holes}
-use Rattle.tib_grammar.specs.Run.{rule_at, IsCost}
+use Rattle.tib_grammar.specs.Run.{rule_at, IsCost, AreFree}
 use Rattle.tib_grammar.specs.Forms.{AreNormal}
 use Rattle.tib_grammar.specs.declared.Rule.{Rule}
 use Rattle.tib_grammar.proofs.NormalRuns.{label_named}
@@ -16,7 +16,6 @@ use Rattle.tib_determinize.specs.Lookup.{residual_in}
 use Rattle.tib_determinize.specs.Vectors.{VectorOf, IsStep, vector_at, vectors_at}
 use Rattle.tib_determinize.specs.VectorGrammar.{IsVectorGrammar}
 use Rattle.tib_determinize.proofs.Determining.{above, below, covered, one_state}
-use Rattle.tib_compare.specs.Compared.{AreFree}
 use Rattle.tib_compare.specs.Wanted.{is_there, holds, differs}
 use Rattle.tib_compare.proofs.Bounds.{at_most, HasRun, run_free}
 

@@ -5,7 +5,7 @@ use Rattle.tib_lex.specs.Lists.{Has}
 use Rattle.tib_lex.proofs.Lists.{has_mapped, mapped_has}
 use Rattle.tib_lex.proofs.Members.{has_at, at_has, has_left, has_right, has_either}
 use Rattle.tib_tree.specs.Trees.{Tree, only}
-use Rattle.tib_grammar.specs.Run.{rule_at, no_rule, IsCost}
+use Rattle.tib_grammar.specs.Run.{rule_at, no_rule, IsCost, AreFree}
 use Rattle.tib_grammar.specs.Series.{IsSeriesAt}
 use Rattle.tib_grammar.specs.Forms.{IsNormalSide, AreNormal}
 use Rattle.tib_grammar.specs.Range.{AllBelow, AreInRange}
@@ -15,7 +15,6 @@ use Rattle.tib_grammar.proofs.NormalRuns.{label_named}
 use Rattle.tib_cost.specs.Semiring.{boolean_laws}
 use Rattle.tib_cost.proofs.Least.{IsLeast-same}
 use Rattle.tib_ranked_trees.specs.Levels.{states_of}
-use Rattle.tib_compare.specs.Compared.{AreFree}
 use Rattle.tib_compare.specs.Beside.{moved, raised, beside, KeepBoth}
 use Rattle.tib_compare.proofs.Mirrored.{IsMirrored, Mirrors, carried}
 use Rattle.tib_compare.proofs.Raising.{IsRaised, along_raised, along_lowered, along_lowered_below, moved_normal, normal_from, moved_forth, moved_back}

@@ -7,7 +7,7 @@ use Rattle.tib_grammar.specs.Forms.{AreNormal}
 use Rattle.tib_grammar.specs.Range.{AreInRange}
 use Rattle.tib_grammar.specs.declared.Rule.{Rule}
 use Rattle.tib_ranked_trees.specs.Levels.{root_of, states_of}
-use Rattle.tib_compare.specs.Compared.{AreFree}
+use Rattle.tib_grammar.specs.Run.{AreFree}
 
 -- a rule's label over its states, each raised by a number, from a left state and at a cost
 abbrev pub moved : ℕ → ℕ → ℕ → Rule ℕ → Rule ℕ

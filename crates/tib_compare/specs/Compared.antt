@@ -11,10 +11,6 @@ use Rattle.tib_tree.specs.Order.{tree_cmp_by}
 use Rattle.tib_compare.specs.declared.compared.Compared.{Compared}
 use Rattle.tib_compare.specs.declared.compared.Compared.TheVariants.{Same, First, Second}
 
--- every rule costs nothing, as all do in Boolean
-abbrev pub AreFree : List (Rule ℕ) → Type 0
-AreFree rules = (n : ℕ) → n < length rules → (rule_at rules n).cost ≡ 0
-
 -- the tree is in the support: the grammar gives it a cost
 abbrev pub HasCost : List (Rule ℕ) → Tree ℕ → Type 0
 HasCost rules t = (c : ℕ) × IsSeries max rules t (Some c)

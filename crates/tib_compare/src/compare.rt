@@ -6,7 +6,8 @@ ghost use Rattle.tib_grammar_file.specs.Printed.{AreLabelled};
 ghost use Rattle.tib_expand.specs.Reached.{most_parts};
 ghost use Rattle.tib_determinize.specs.VectorGrammar.{IsDeterminized};
 ghost use Rattle.tib_compare.specs.Beside.{beside};
-ghost use Rattle.tib_compare.specs.Compared.{AreFree, IsCompared, IsSmall, IsTooLarge};
+ghost use Rattle.tib_grammar.specs.Run.{AreFree};
+ghost use Rattle.tib_compare.specs.Compared.{IsCompared, IsSmall, IsTooLarge};
 ghost use Rattle.tib_compare.specs.Faults.{IsCause, IsFaultOf, IsWithin};
 ghost use Rattle.tib_compare.specs.Answered.{IsAnswerOf, IsNamed};
 

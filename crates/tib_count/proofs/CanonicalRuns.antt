@@ -10,7 +10,7 @@ use Rattle.tib_lex.proofs.Lists.{has_mapped}
 use Rattle.tib_lex.proofs.Members.{has_at, at_has, has_either, each_has}
 use Rattle.tib_grammar.specs.GrammarOf.{GrammarOf, named_rule}
 use Rattle.tib_grammar.specs.Range.{AreInRange, SidesEndInHoles}
-use Rattle.tib_grammar.specs.Run.{rule_at, no_rule}
+use Rattle.tib_grammar.specs.Run.{rule_at, no_rule, AreFree}
 use Rattle.tib_grammar.specs.declared.Rule.{Rule}
 use Rattle.tib_normal.proofs.Forming.{form_range}
 use Rattle.tib_canon.specs.Canonical.{IsCanonical}
@@ -20,7 +20,6 @@ use Rattle.tib_canon.specs.declared.begin.Begin.{Begin}
 use Rattle.tib_canon.specs.declared.begin.Begin.TheVariants.{At, Fresh, Empty}
 use Rattle.tib_canon.proofs.CanonicalTexts.{are_lone}
 use Rattle.tib_count.specs.Counted.{HaveRuns}
-use Rattle.tib_count.specs.Laws.{AreFree}
 use Rattle.tib_count.proofs.CarriedRuns.{HasSidesOf, still_have_runs}
 use Rattle.tib_count.proofs.FreeForms.{each_free, are_free, renamed_free, form_free}
 use Rattle.tib_count.proofs.UsefulRuns.{trimmed_free, trimmed_have_runs}

@@ -7,7 +7,7 @@ use Rattle.tib_lex.proofs.Members.{has_at}
 use Rattle.tib_lex.proofs.Places.{distinct_at}
 use Rattle.tib_tree.specs.Trees.{Trees, relabel}
 use Rattle.tib_grammar.specs.GrammarOf.{GrammarOf}
-use Rattle.tib_grammar.specs.Run.{rule_at}
+use Rattle.tib_grammar.specs.Run.{rule_at, AreFree}
 use Rattle.tib_grammar.specs.Sides.{holes_of}
 use Rattle.tib_grammar.specs.declared.Rule.{Rule}
 use Rattle.tib_inside.proofs.Chosen.{ascending_distinct}
@@ -20,7 +20,6 @@ use Rattle.tib_trim.proofs.FirstSeen.{states_distinct}
 use Rattle.tib_trim.proofs.Renumbered.{to_old, to_new}
 use Rattle.tib_count.specs.Counts.{IsCountOf}
 use Rattle.tib_count.specs.Counted.{IsRun, HaveRuns}
-use Rattle.tib_count.specs.Laws.{AreFree}
 use Rattle.tib_count.specs.declared.count.Count.{Count}
 use Rattle.tib_count.proofs.CarriedRuns.{run_of}
 use Rattle.tib_count.proofs.FreeRuns.{run_within}

@@ -11,11 +11,6 @@ use Rattle.tib_grammar.specs.Run.{rule_at}
 use Rattle.tib_grammar.specs.Range.{AreInRange, AreBelow, AllBelow}
 use Rattle.tib_count.specs.Edges.{Leads, LeadsAmong, IsEdge, AreEdgesAmong}
 
--- a list that was filled up
-pub filled : (old new : List ℕ) (k m n to : ℕ) → new ≡ take k old ++ replicate (k - m) n → k ≡ to → m ≡ length old → length old ≤ to → new ≡ old ++ replicate (to - length old) n
-filled old new k m n to e a b h =
-    e ∙ ap (λ z. take z old ++ replicate (z - m) n) a ∙ ap (λ z. take to old ++ replicate (to - z) n) b ∙ ap (λ xs. xs ++ replicate (to - length old) n) (take_all to old h)
-
 early : (rules : List (Rule ℕ)) (k q p : ℕ) → LeadsAmong rules k q p → LeadsAmong rules (k + 1) q p
 early rules k q p l = record { rule = l.rule; early = omega (arith, l.early); left = l.left; stands = l.stands }
 

@@ -6,11 +6,10 @@ use Rattle.tib_lex.specs.Lists.{Has}
 use Rattle.tib_lex.proofs.Members.{has_at, at_has, has_either}
 use Rattle.tib_tree.specs.Trees.{Trees, none, tree}
 use Rattle.tib_grammar.specs.GrammarOf.{named_rule}
-use Rattle.tib_grammar.specs.Run.{rule_at, no_rule}
+use Rattle.tib_grammar.specs.Run.{rule_at, no_rule, AreFree}
 use Rattle.tib_grammar.specs.Sides.{Symbol, label, hole, labels_in}
 use Rattle.tib_grammar.specs.declared.Rule.{Rule}
 use Rattle.tib_normal.specs.NormalForm.{IsChain, chain_cost, IsNormalForm, inner_rules, all_inner}
-use Rattle.tib_count.specs.Laws.{AreFree}
 
 -- rules cost nothing where each of them does, and the other way round
 pub each_free : (rules : List (Rule ℕ)) → AreFree rules → (r : Rule ℕ) → Has rules r → r.cost ≡ 0

@@ -3,13 +3,12 @@ use Rattle.std.specs.Prelude.{◌≡◌, ◌↔◌, ℕ, ◌≤◌, max, List, [
 use Rattle.std.proofs.Common.{arith}
 use Rattle.tib_cost.specs.Semiring.{most}
 use Rattle.tib_tree.specs.Trees.{Tree, Trees, none, tree}
-use Rattle.tib_grammar.specs.Run.{rule_at, AreRuns, cost}
+use Rattle.tib_grammar.specs.Run.{rule_at, AreRuns, cost, AreFree}
 use Rattle.tib_grammar.specs.Series.{IsSeries, HaveSameSeries}
 use Rattle.tib_grammar.specs.Sides.{holes_of}
 use Rattle.tib_grammar.specs.declared.Rule.{Rule}
 use Rattle.tib_count.specs.Counts.{IsCountOf}
 use Rattle.tib_count.specs.Counted.{IsTree}
-use Rattle.tib_count.specs.Laws.{AreFree}
 use Rattle.tib_count.specs.declared.count.Count.{Count}
 use Rattle.tib_count.proofs.SetCounts.{count_same}
 

@@ -3,27 +3,11 @@ use Rattle.std.specs.Prelude.{◌≡◌, ◌⊎◌, ◌↔◌, ℕ, ◌<◌, ◌
 use Rattle.std.proofs.Common.{arith, ap, sym, ◌∙◌, subst, inl, inr}
 use Rattle.tib_cost.specs.Semiring.{most}
 use Rattle.tib_lex.specs.Lists.{Has, Distinct, Along, total}
-use Rattle.tib_lex.proofs.Alongs.{total_fewer}
+use Rattle.tib_lex.proofs.Alongs.{total_fewer, along_self, total_one, no_longer}
 use Rattle.tib_lex.proofs.Lists.{has_mapped, mapped_has, length_map}
 use Rattle.tib_count.specs.Counts.{AreMembers, HasMembers, IsEndless, IsCountOf}
 use Rattle.tib_count.specs.declared.count.Count.{Count}
 use Rattle.tib_count.specs.declared.count.Count.TheVariants.{Number, Many, Endless}
-
-along_self : {A : Type 0} (xs : List A) → Along (λ (x : A) (y : A). x ≡ y) xs xs
-along_self [] = tt
-along_self (x ∷ xs) = (refl, along_self xs)
-
-total_one : {A : Type 0} (xs : List A) → total (λ (x : A). 1) xs ≡ length xs
-total_one [] = refl
-total_one (x ∷ xs) = omega (arith, total_one xs)
-
--- a list without doubles is no longer than one that has its members
-pub no_longer : {A : Type 0} (xs ys : List A) → Distinct xs → ((x : A) → Has xs x → Has ys x) → length xs ≤ length ys
-no_longer {A} xs ys once among =
-    let fewer : total (λ (x : A). 1) xs ≤ total (λ (x : A). 1) ys =
-    total_fewer (λ (x : A) (y : A). x ≡ y) (λ (x : A). 1) (λ o e f a b. sym a ∙ b) xs xs ys ys once (along_self xs) (along_self ys) among
-    in
-    omega (arith, fewer, total_one xs, total_one ys)
 
 module _ {A : Type 0} (P : A → Type 0) where
   -- two lists that have the members of a set are equally long

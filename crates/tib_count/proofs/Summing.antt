@@ -15,13 +15,14 @@ use Rattle.tib_count.specs.Counts.{counted, HasMembers, IsCountOf}
 use Rattle.tib_count.specs.Counted.{IsRun, IsRunFrom}
 use Rattle.tib_count.specs.Products.{product_over, rule_number, sum_over}
 use Rattle.tib_count.specs.Edges.{Leads}
-use Rattle.tib_count.specs.Links.{IsNext}
+use Rattle.tib_inside.specs.Links.{IsNext}
 use Rattle.tib_count.specs.Order.{IsOrder}
 use Rattle.tib_count.specs.Sums.{lefts, HasTotal, AreSummed}
 use Rattle.tib_count.specs.declared.count.Count.{Count}
 use Rattle.tib_count.specs.declared.count.Count.TheVariants.{Number, Endless}
 use Rattle.tib_count.proofs.RunLists.{runs_of_sides}
 use Rattle.tib_count.proofs.CountedNumbers.{count_is}
+use Rattle.tib_inside.proofs.Following.{holes_append, lefts_at, lefts_long}
 
 -- Products
 
@@ -31,11 +32,6 @@ product_append number (x ∷ xs) ys = along (number x) (product_over number xs) 
   where
     along : (a b c : ℕ) → (a * b) * c ≡ a * (b * c)
     along a b c = grind arith
-
-holes_append : (xs ys : List (Item ℕ)) → holes_in (xs ++ ys) ≡ holes_in xs ++ holes_in ys
-holes_append [] ys = refl
-holes_append (Label f rank ∷ xs) ys = holes_append xs ys
-holes_append (Hole q ∷ xs) ys = ap (λ zs. q ∷ zs) (holes_append xs ys)
 
 pub product_item : (number : ℕ → ℕ) (items : List (Item ℕ)) (i : ℕ) (d : Item ℕ) → i < length items →
     product_over number (holes_in (take i items)) * product_over number (holes_in (get_or items i d ∷ [])) ≡ product_over number (holes_in (take (i + 1) items))
@@ -76,17 +72,6 @@ pub hole_has : (x : Item ℕ) (q : ℕ) → x ≡ Hole q → Has (holes_in (x �
 hole_has x q e = subst (λ (y : Item ℕ). Has (holes_in (y ∷ [])) q) (sym e) (inl refl)
 
 -- Sums
-
-pub lefts_at : (rules : List (Rule ℕ)) (n : ℕ) → n < length rules → get_or (lefts rules) n 0 ≡ (rule_at rules n).left
-lefts_at rules n h = get_or-map (λ r. r.left) rules n no_rule 0 h
-
-pub lefts_long : (rules : List (Rule ℕ)) → length (lefts rules) ≡ length rules
-lefts_long rules = length-map rules (λ r. r.left)
-
-pub lefts_below : (rules : List (Rule ℕ)) (count : ℕ) → AreInRange count rules → AreBelow count (lefts rules)
-lefts_below rules count range i h =
-    let b : i < length rules = omega (arith, lefts_long rules) in
-    subst (λ q. q < count) (sym (lefts_at rules i b)) (range i b).0
 
 sum_own : (rules : List (Rule ℕ)) (f : ℕ → ℕ) (q k : ℕ) → (rule_at rules k).left ≡ q → sum_over rules f q (suc k) ≡ sum_over rules f q k + f k
 sum_own rules f q k e = elim (nat_eq_cases (rule_at rules k).left q) [

@@ -11,7 +11,7 @@ use Rattle.tib_lex.proofs.Numbers.{same_or_other}
 use Rattle.tib_tree.specs.Trees.{Trees, none, tree, only}
 use Rattle.tib_grammar.specs.GrammarOf.{GrammarOf, named_rule}
 use Rattle.tib_grammar.specs.Range.{AllBelow, AreInRange}
-use Rattle.tib_grammar.specs.Run.{rule_at, AreRuns, cost}
+use Rattle.tib_grammar.specs.Run.{rule_at, AreRuns, cost, AreFree}
 use Rattle.tib_grammar.specs.Sides.{holes_of}
 use Rattle.tib_grammar.specs.declared.Rule.{Rule}
 use Rattle.tib_grammar.proofs.Below.{below_has}
@@ -25,7 +25,6 @@ use Rattle.tib_inside.proofs.Keeping.{as_many, named_at}
 use Rattle.tib_inside.proofs.Living.{insides_all, live_by_runs, useful_left}
 use Rattle.tib_canon.proofs.Inhabited.{insides_are}
 use Rattle.tib_count.specs.Counted.{HaveRuns}
-use Rattle.tib_count.specs.Laws.{AreFree}
 use Rattle.tib_count.proofs.Once.{is_member}
 
 module _ (product : ℕ → ℕ → ℕ) (old new : GrammarOf) (trimmed : IsTrimmed product old new) where

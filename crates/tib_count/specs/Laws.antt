@@ -5,7 +5,7 @@ use Rattle.tib_tree.specs.Trees.{Tree}
 use Rattle.tib_grammar.specs.GrammarOf.{GrammarOf}
 use Rattle.tib_grammar.specs.Forms.{AreNormal, IsDeterministic}
 use Rattle.tib_grammar.specs.Range.{AreInRange, SidesEndInHoles}
-use Rattle.tib_grammar.specs.Run.{rule_at}
+use Rattle.tib_grammar.specs.Run.{rule_at, AreFree}
 use Rattle.tib_grammar.specs.Series.{HaveSameSeries}
 use Rattle.tib_grammar.specs.declared.Rule.{Rule}
 use Rattle.tib_normal.specs.NormalForm.{IsNormalForm}
@@ -17,10 +17,6 @@ use Rattle.tib_canon.specs.TrimmedForms.{IsTrimmedForm}
 use Rattle.tib_count.specs.Counts.{HasMembers, IsEndless, IsCountOf}
 use Rattle.tib_count.specs.Counted.{IsRun, IsTree, HaveRuns}
 use Rattle.tib_count.specs.declared.count.Count.{Count}
-
--- every rule costs nothing, as all do in Boolean
-abbrev pub AreFree : List (Rule ℕ) → Type 0
-AreFree rules = (n : ℕ) → n < length rules → (rule_at rules n).cost ≡ 0
 
 -- the runs have one count
 abbrev pub RunsHaveOneCount : Type 0

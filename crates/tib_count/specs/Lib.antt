@@ -1,7 +1,6 @@
 pub mod Counts
 pub mod Counted
 pub mod Products
-pub mod Links
 pub mod Edges
 pub mod Order
 pub mod Sums

@@ -4,7 +4,7 @@ use Rattle.std.proofs.Common.{get_or}
 use Rattle.tib_lex.specs.Lists.{Has, Distinct}
 use Rattle.tib_grammar.specs.Range.{AreBelow}
 use Rattle.tib_count.specs.Edges.{IsEdge}
-use Rattle.tib_count.specs.Links.{IsNext}
+use Rattle.tib_inside.specs.Links.{IsNext}
 use Rattle.tib_count.specs.declared.order.Phase.{Phase}
 use Rattle.tib_count.specs.declared.order.Phase.TheVariants.{Unseen, Begun, Settled}
 

@@ -6,7 +6,7 @@ ghost use Rattle.tib_count.specs.Counts.{counted};
 use crate::count::Count;
 use tib_cost::MOST;
 
-/// A number as a count.
+/// A number as a count, in constant time.
 pub fn number(n: u64) -> Count
     ensures { result ≡ counted n }
 {
@@ -17,7 +17,7 @@ pub fn number(n: u64) -> Count
     }
 }
 
-/// The sum of two numbers.
+/// The sum of two numbers, in constant time.
 pub fn plus(a: Count, b: Count) -> Count
     ensures { (m n : ℕ) → a ≡ counted m → b ≡ counted n → result ≡ counted (m + n) }
 {
@@ -38,7 +38,7 @@ fn many_times(n: u64) -> Count
     }
 }
 
-/// The product of two numbers.
+/// The product of two numbers, in constant time.
 pub fn times(a: Count, b: Count) -> Count
     ensures { (m n : ℕ) → a ≡ counted m → b ≡ counted n → result ≡ counted (m * n) }
 {

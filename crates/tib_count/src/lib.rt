@@ -7,7 +7,6 @@ mod count;
 mod counting;
 mod edges;
 pub mod laws;
-mod links;
 mod order;
 mod sums;
 

@@ -6,8 +6,8 @@ ghost use Rattle.tib_count.specs.Edges.{IsEdge};
 ghost use Rattle.tib_count.specs.Order.{IsOrder, IsCircle, IsSearching, AreNext, Finds, Skips};
 
 use crate::edges::Edges;
-use crate::links::Links;
 use std::alloc::{AllocError, Global};
+use tib_inside::Links;
 
 /// How far the search is with a state.
 #[derive(Clone, Copy, Debug)]

@@ -10,15 +10,15 @@ ghost use Rattle.tib_count.specs.Counts.{counted, IsCountOf};
 ghost use Rattle.tib_count.specs.Counted.{IsRun};
 ghost use Rattle.tib_count.specs.Products.{product_over, rule_number, sum_over};
 ghost use Rattle.tib_count.specs.Edges.{Leads};
-ghost use Rattle.tib_count.specs.Links.{AreLinks};
+ghost use Rattle.tib_inside.specs.Links.{AreLinks};
 ghost use Rattle.tib_count.specs.Order.{IsOrder};
 ghost use Rattle.tib_count.specs.Sums.{lefts, HasTotal};
 
 use crate::arithmetic::{plus, times};
 use crate::count::Count;
-use crate::links::Links;
 use std::alloc::{AllocError, Global};
 use tib_grammar::{Item, Rule};
+use tib_inside::Links;
 
 /// The left states of some rules.
 fn left_states(alloc: Global, rules: &[Rule<u32>]) -> Result<Vec<u32>, AllocError>

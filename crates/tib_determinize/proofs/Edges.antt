@@ -19,6 +19,7 @@ use Rattle.tib_determinize.specs.Stepped.{Stepped, stepped_parts, rules_from, Is
 use Rattle.tib_determinize.proofs.EdgesOf.{edge_of}
 use Rattle.tib_determinize.proofs.Stepping.{step_or_none, lefts_below}
 use Rattle.tib_determinize.specs.ListLemmas.{along_back}
+use Rattle.tib_lex.proofs.Lists.{map_twice, each_mapped}
 
 -- a renaming of leaves
 pub map_leaves : {K : Type 0} (g : ℕ → K) (qs : List ℕ) → relabel (symbol_map {A = ℕ} g) (leaves qs) ≡ leaves (map g qs)
@@ -70,14 +71,6 @@ reads_from order d front (e ∷ es) ends i are at h =
         ap (λ (k : VectorOf). record { left = k; right = over e.label (map (λ p. key_at d order ends (Known p)) e.positions); cost = e.cost }) left
         ∙ ap (λ (vs : List VectorOf). record { left = e.vector; right = over e.label vs; cost = e.cost }) (vectors_read order ends d e.positions h.0)
 
-map_twice : {A B C : Type 0} (f : B → C) (g : A → B) (xs : List A) → map (λ x. f (g x)) xs ≡ map f (map g xs)
-map_twice f g [] = refl
-map_twice f g (x ∷ xs) = ap (λ ys. f (g x) ∷ ys) (map_twice f g xs)
-
-each_mapped : {A B : Type 0} (P : B → Type 0) (g : A → B) (xs : List A) → Each P (map g xs) → Each (λ x. P (g x)) xs
-each_mapped P g [] h = tt
-each_mapped P g (x ∷ xs) h = (h.0, each_mapped P g xs h.1)
-
 within_from : (order : List VectorOf) (many i : ℕ) (es : List Stepped) → i + length es ≤ many → Each (IsInOrder order) es → Each (λ rule. Each (IsWithin (length order) many) (places_in rule)) (rules_from i es)
 within_from order many i [] l h = tt
 within_from order many i (e ∷ es) l h = ((omega arith, known e.positions h.0), within_from order many (suc i) es (omega arith) h.1)
@@ -110,7 +103,7 @@ pub is_listed :
 is_listed Edge order ends rules parts l es is within ends_are rules_are parts_is in_order lists =
     let e : ends ≡ map (λ (x : Stepped). x.vector) es = ends_are ∙ is.ends in
     let r : map placed_rule rules ≡ rules_from 0 es = ap (map placed_rule) rules_are ∙ is.rules in
-    let read = λ (d : VectorOf). map_twice (read_placed (key_at d order ends)) placed_rule rules ∙ ap (map (read_placed (key_at d order ends))) r ∙ reads_from order d [] es ends 0 e refl in_order in
+    let read = λ (d : VectorOf). sym (map_twice (read_placed (key_at d order ends)) placed_rule rules) ∙ ap (map (read_placed (key_at d order ends))) r ∙ reads_from order d [] es ends 0 e refl in_order in
     record {
       few = (let a = within.few in let b = within.within in let c = within.budget in let x : length ends ≡ length l.ends.items = ap length ends_are in omega (arith, a, b, c, x));
       within = each_mapped (λ (rule : PlacedRule). Each (IsWithin (length order) (length ends)) (places_in rule)) placed_rule rules (subst (λ rs. Each (λ (rule : PlacedRule). Each (IsWithin (length order) (length ends)) (places_in rule)) rs) (sym r) (within_from order (length ends) 0 es (let x = ap length e in let y = length_mapped es in omega (arith, x, y)) in_order));

@@ -60,7 +60,7 @@ leaves_at_root (hole p) kids f e h = absurd (cc)
 
 -- the greatest of some positions
 
-record IsGreatest (n : ℕ) (ps : List ℕ) : Type 0 where
+pub record IsGreatest (n : ℕ) (ps : List ℕ) : Type 0 where
   has : Has ps n
   up_to : Each (λ p. p ≤ n) ps
 

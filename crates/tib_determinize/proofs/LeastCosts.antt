@@ -17,6 +17,7 @@ use Rattle.tib_grammar.proofs.Members.{each_has, each_of, has_at, at_has}
 use Rattle.tib_determinize.specs.Vectors.{Rises}
 use Rattle.tib_determinize.specs.Settling.{firsts, lesser_with, least_from, IsLeastCost, AreLeastCosts}
 use Rattle.tib_determinize.specs.ListLemmas.{each_map}
+use Rattle.tib_lex.proofs.Members.{has_permuted}
 
 -- x may be before y: its state is lesser, or the same at no greater cost
 abbrev IsInTurn : ℕ × ℕ → ℕ × ℕ → Type 0
@@ -38,12 +39,6 @@ all_in_turn : (xs : List (ℕ × ℕ)) → IsSorted pair_cmp xs → Ascends IsIn
 all_in_turn xs s =
     Ascends-from IsInTurn xs (0, 0)
     (λ i j h k. in_turn (get_or xs i (0, 0)) (get_or xs j (0, 0)) (sorted_far (λ x y. is_lt (pair_cmp x y)) (ranks_by pair_total (λ x. x)) xs s i j (0, 0) (omega arith) k))
-
-has_permuted : (xs ys : List (ℕ × ℕ)) (x : ℕ × ℕ) → IsPermutation xs ys → Has xs x → Has ys x
-has_permuted xs ys x p h =
-    let a = at_has xs x x h in
-    let c : Contains ys x = Contains-permutation xs ys x p (a.0, a.1, a.2) in
-    subst (Has ys) c.2 (has_at ys c.0 x c.1)
 
 -- nothing is left of an iterator of no length
 pub none_left : (xs : List (ℕ × ℕ)) → length xs ≡ 0 → xs ≡ []

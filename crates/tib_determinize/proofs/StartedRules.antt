@@ -19,13 +19,6 @@ use Rattle.tib_grammar.proofs.Positions.{reads_positions}
 use Rattle.tib_determinize.specs.Started.{start_in, with_final, finals}
 use Rattle.tib_determinize.specs.Vectors.{VectorOf}
 
--- the items of a side are not refused
-pub no_fault :
-    {T : Type 0} (r : Result T ShapeError) (Is : Side ℕ ℕ → Type 0) (e : ShapeError) → r ≡ Err e → (r ≡ Err NotATree → (s : Side ℕ ℕ) → Is s → ⊥) → (r ≡ Err OutOfMemory → ⊥) →
-    (s : Side ℕ ℕ) → Is s → ⊥
-no_fault r Is NotATree at not_a_tree no_memory s is = not_a_tree at s is
-no_fault r Is OutOfMemory at not_a_tree no_memory s is = no_memory at
-
 -- states at holes below n are all states below n, where holes are leaves
 states_below : (n : ℕ) (ts : Trees (Symbol ℕ ℕ)) → HolesAreLeaves ts → AllBelow n (holes ts) → Each (λ q. q < n) (states_in ts)
 states_below n none h b = tt
@@ -33,10 +26,6 @@ states_below n (tree (label f) kids rest) h b =
     each_append (λ q. q < n) (states_in kids) (states_in rest) (states_below n kids h.0 (below_front n (holes kids) (holes rest) b)) (states_below n rest h.1 (below_back n (holes kids) (holes rest) b))
 states_below n (tree (hole q) none rest) h b = (b.0, states_below n rest h b.1)
 states_below n (tree (hole q) (tree s kids more) rest) h b = absurd h
-
--- what a list becomes where all of it is written anew
-pub refilled : {A : Type 0} (xs ws : List A) (n : ℕ) → n ≡ length xs → length ws ≡ length xs → take n (ws ++ drop (length ws) xs) ≡ ws
-refilled xs ws n e h = take_at ws (drop (length ws) xs) n (omega (arith, e, h))
 
 -- rules under the next numbers
 pub named_next :

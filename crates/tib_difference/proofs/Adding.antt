@@ -9,10 +9,7 @@ use Rattle.tib_determinize.specs.VectorRules.{placed_rule}
 use Rattle.tib_difference.specs.declared.listing.KeyListing.{KeyListing}
 use Rattle.tib_difference.specs.Difference.{KeyOf}
 use Rattle.tib_difference.specs.Listing.{Listed, listed_parts, rules_from, IsListing, IsAdded, IsListedAt, Adds, Overruns, HasAll, Exceed}
-
-map_append : {A B : Type 0} (f : A → B) (xs ys : List A) → map f (xs ++ ys) ≡ map f xs ++ map f ys
-map_append f [] ys = refl
-map_append f (x ∷ xs) ys = ap (λ zs. f x ∷ zs) (map_append f xs ys)
+use Rattle.tib_key_edges.specs.SideRuleLaws.{map_append}
 
 rules_more : (i : ℕ) (es : List Listed) (e : Listed) (n : ℕ) → n ≡ i + length es → rules_from i (es ++ e ∷ []) ≡ rules_from i es ++ record { end = n; label = e.label; positions = e.positions; cost = e.cost } ∷ []
 rules_more i [] e n h = let s : i ≡ n = omega arith in ap (λ (m : ℕ). record { end = m; label = e.label; positions = e.positions; cost = e.cost } ∷ []) s

@@ -14,6 +14,7 @@ use Rattle.tib_determinize.specs.ListLemmas.{along_back}
 use Rattle.tib_difference.specs.declared.listing.KeyListing.{KeyListing}
 use Rattle.tib_difference.specs.Difference.{KeyOf, key_at, keys_at, ends_of, edge_parts}
 use Rattle.tib_difference.specs.Listing.{Listed, listed_parts, rules_from, IsListing, IsWithinBudget}
+use Rattle.tib_lex.proofs.Lists.{map_twice, each_mapped}
 
 -- the edge over keys
 abbrev pub edge_of : List KeyOf → Listed → Rule KeyOf
@@ -53,14 +54,6 @@ reads_from order d front (e ∷ es) ends i are at h =
         ap (λ (k : KeyOf). record { left = k; right = over e.label (map (λ p. place_key d order ends (Known p)) e.positions); cost = e.cost }) left
         ∙ ap (λ (vs : List KeyOf). record { left = e.key; right = over e.label vs; cost = e.cost }) (keys_read order ends d e.positions h.0)
 
-map_twice : {A B C : Type 0} (f : B → C) (g : A → B) (xs : List A) → map (λ x. f (g x)) xs ≡ map f (map g xs)
-map_twice f g [] = refl
-map_twice f g (x ∷ xs) = ap (λ ys. f (g x) ∷ ys) (map_twice f g xs)
-
-each_mapped : {A B : Type 0} (P : B → Type 0) (g : A → B) (xs : List A) → Each P (map g xs) → Each (λ x. P (g x)) xs
-each_mapped P g [] h = tt
-each_mapped P g (x ∷ xs) h = (h.0, each_mapped P g xs h.1)
-
 within_from : (order : List KeyOf) (many i : ℕ) (es : List Listed) → i + length es ≤ many → Each (IsInOrder order) es → Each (λ rule. Each (IsWithin (length order) many) (places_in rule)) (rules_from i es)
 within_from order many i [] l h = tt
 within_from order many i (e ∷ es) l h = ((omega arith, known e.positions h.0), within_from order many (suc i) es (omega arith) h.1)
@@ -93,7 +86,7 @@ pub is_listed :
 is_listed Edge order ends rules parts l es is within ends_are rules_are parts_is in_order lists =
     let e : ends ≡ map (λ (x : Listed). x.key) es = ends_are ∙ is.ends in
     let r : map placed_rule rules ≡ rules_from 0 es = ap (map placed_rule) rules_are ∙ is.rules in
-    let read = λ (d : KeyOf). map_twice (read_placed (place_key d order ends)) placed_rule rules ∙ ap (map (read_placed (place_key d order ends))) r ∙ reads_from order d [] es ends 0 e refl in_order in
+    let read = λ (d : KeyOf). sym (map_twice (read_placed (place_key d order ends)) placed_rule rules) ∙ ap (map (read_placed (place_key d order ends))) r ∙ reads_from order d [] es ends 0 e refl in_order in
     record {
       few = (let a = within.few in let b = within.within in let c = within.budget in let x : length ends ≡ length l.ends.items = ap length ends_are in omega (arith, a, b, c, x));
       within = each_mapped (λ (rule : PlacedRule). Each (IsWithin (length order) (length ends)) (places_in rule)) placed_rule rules (subst (λ rs. Each (λ (rule : PlacedRule). Each (IsWithin (length order) (length ends)) (places_in rule)) rs) (sym r) (within_from order (length ends) 0 es (let x = ap length e in let y = length_mapped es in omega (arith, x, y)) in_order));

@@ -15,7 +15,7 @@ use Rattle.tib_grammar.proofs.NormalRuns.{count-yields}
 use Rattle.tib_cost.specs.Semiring.{ProductLaws}
 use Rattle.tib_cost.proofs.Times.{product-zero}
 use Rattle.tib_determinize.specs.ListLemmas.{get_left, get_right, side_of}
-use Rattle.tib_difference.specs.Series.{chain_to}
+use Rattle.tib_determinize.specs.Started.{chain_to}
 
 module _
     {levelled weighted : Bool} {product : ℕ → ℕ → ℕ} (laws : ProductLaws levelled weighted product)

@@ -4,14 +4,14 @@ use Rattle.std.proofs.Common.{suc, arith, ap, sym, ◌∙◌, subst, get_or, inl
 use Rattle.std.proofs.lemmas.Bool.Decides.{nat_tests}
 use Rattle.tib_lex.specs.Lists.{Has}
 use Rattle.tib_lex.proofs.Booleans.{bool_cases, and-true, and-both}
-use Rattle.tib_lex.proofs.Numbers.{nat_eq_cases}
+use Rattle.tib_lex.proofs.Numbers.{nat_eq_cases, nat_eq-same}
 use Rattle.tib_lex.proofs.Members.{has_left, has_right, has_either}
 use Rattle.tib_tree.specs.Trees.{count}
 use Rattle.tib_grammar.specs.Forms.{AreNormal}
 use Rattle.tib_grammar.specs.Sides.{Symbol, label, holes, is_label}
 use Rattle.tib_grammar.specs.Run.{rule_at, no_rule}
 use Rattle.tib_grammar.specs.declared.Rule.{Rule}
-use Rattle.tib_grammar.proofs.Sides.{length-holes, is_label-true, is_label_cases}
+use Rattle.tib_grammar.proofs.Sides.{length-holes, is_label-true, is_label_cases, is_label-same}
 use Rattle.tib_key_edges.proofs.Places.{place_is, is_place}
 use Rattle.tib_difference.specs.Subsets.{SubsetOf, AreIn, LeadsTo, IsSubset}
 use Rattle.tib_difference.specs.Shapes.{first_state, has_shape, positions_with}
@@ -54,12 +54,6 @@ first_has [] [] h = inl refl
 first_has [] (v ∷ vs) h = absurd h
 first_has (q ∷ qs) [] h = absurd h
 first_has (q ∷ qs) (v ∷ vs) h = h.0
-
-nat_eq-same : (a b : ℕ) → a ≡ b → nat_eq a b ≡ true
-nat_eq-same a b e = grind (arith, nat_tests)
-
-is_label-same : (f : ℕ) (s : Symbol ℕ ℕ) → s ≡ label f → is_label f s ≡ true
-is_label-same f s e = elim (is_label_cases s f) [ inl y ↦ y.1 | inr n ↦ absurd (n.0 e) ]
 
 module _ (rules : List (Rule ℕ)) (vs : List SubsetOf) where
   -- the left state of one of some rules, whose states are in the sets

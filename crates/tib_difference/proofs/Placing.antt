@@ -6,10 +6,7 @@ use Rattle.tib_grammar.specs.Items.{state_in}
 use Rattle.tib_grammar.specs.declared.Item.{Item}
 use Rattle.tib_key_edges.proofs.Places.{places-one}
 use Rattle.tib_difference.specs.Tries.{places_with}
-
-map_append : {A B : Type 0} (f : A → B) (xs ys : List A) → map f (xs ++ ys) ≡ map f xs ++ map f ys
-map_append f [] ys = refl
-map_append f (x ∷ xs) ys = ap (λ zs. f x ∷ zs) (map_append f xs ys)
+use Rattle.tib_key_edges.specs.SideRuleLaws.{map_append}
 
 -- the state that an item of a rule carries
 pub state_there : (items : List (Item ℕ)) (x : Item ℕ) (i : ℕ) (states : List ℕ) → map state_in items ≡ states → i < length items → x ≡ get_or items i x → state_in x ≡ get_or states i 0

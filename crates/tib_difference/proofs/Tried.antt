@@ -11,6 +11,7 @@ use Rattle.tib_difference.specs.Difference.{KeyOf}
 use Rattle.tib_difference.specs.Held.{AreHolders, HoldIfWide}
 use Rattle.tib_difference.specs.Tries.{places_with, states_in, tries_all, tries_at, users_of}
 use Rattle.tib_difference.specs.Using.{AreNarrow, IsUser}
+use Rattle.tib_lex.proofs.Members.{has_at}
 
 each_map : {A B : Type 0} (Q : B → Type 0) (f : A → B) (xs : List A) → ((x : A) → Has xs x → Q (f x)) → Each Q (map f xs)
 each_map Q f [] h = tt
@@ -22,17 +23,6 @@ users_are one q zero h = tt
 users_are one q (suc k) h =
     each_append (IsUser one) (users_of one q k) (map (λ j. (k, j)) (places_with q (states_in one k))) (users_are one q k (omega arith))
     (each_map (IsUser one) (λ j. (k, j)) (places_with q (states_in one k)) (λ j m. (omega arith, (place_is (λ p. nat_eq p q) (states_in one k) j 0 m).0)))
-
--- what holds of each holds at a place
-pub each_at : {A : Type 0} (P : A → Type 0) (xs : List A) (n : ℕ) (d : A) → Each P xs → n < length xs → P (get_or xs n d)
-each_at P [] n d e h = absurd (omega arith)
-each_at P (x ∷ xs) zero d e h = e.0
-each_at P (x ∷ xs) (suc n) d e h = each_at P xs n d e.1 (omega arith)
-
-has_at : {A : Type 0} (xs : List A) (n : ℕ) (d : A) → n < length xs → Has xs (get_or xs n d)
-has_at [] n d h = absurd (omega arith)
-has_at (x ∷ xs) zero d h = inl refl
-has_at (x ∷ xs) (suc n) d h = inr (has_at xs n d (omega arith))
 
 each_more : {A : Type 0} (P : A → Type 0) (xs : List A) (n : ℕ) (d : A) → n < length xs → Each P (take n xs) → P (get_or xs n d) → Each P (take (suc n) xs)
 each_more P [] n d h e p = absurd (omega arith)

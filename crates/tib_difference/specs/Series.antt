@@ -12,6 +12,7 @@ use Rattle.tib_grammar.specs.declared.Rule.{Rule}
 use Rattle.tib_expand.specs.Reached.{IsReachedSet}
 use Rattle.tib_difference.specs.Subsets.{SubsetOf}
 use Rattle.tib_difference.specs.Difference.{KeyOf, difference, key_at}
+use Rattle.tib_determinize.specs.Started.{chain_to}
 
 -- the tree has a run from the start, whatever it costs
 pub record HasRun (rules : List (Rule ℕ)) (t : Tree ℕ) : Type 0 where
@@ -44,10 +45,6 @@ with_final i k more = if nat_eq k.0 0 then unless_start k.1 i more else more
 abbrev pub finals : ℕ → List KeyOf → List (ℕ × ℕ)
 finals i [] = []
 finals i (k ∷ order) = with_final i k (finals (suc i) order)
-
--- the chain rule of the fresh start to a position
-abbrev pub chain_to : ℕ × ℕ → Rule ℕ
-chain_to p = record { left = 0; right = Lone (suc p.0); cost = p.1 }
 
 -- the fresh start is 0, and each position is one more
 abbrev pub started : List KeyOf → List (Rule ℕ) → List (Rule ℕ)

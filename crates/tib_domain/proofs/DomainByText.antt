@@ -22,12 +22,7 @@ use Rattle.tib_domain.specs.Alphabet.{same_symbol, symbols_in, all_symbols, alph
 use Rattle.tib_domain.specs.Reading.{left_out, pairs_from, only_pairs, reading_rule, plain, any_rule, domain_rules, domain_of}
 use Rattle.tib_domain.proofs.ReadBack.{one_side}
 use Rattle.tib_domain.proofs.Symbols.{symbols_append}
-
-along_both : {A B : Type 0} (R : A → B → Type 0) (xs us : List A) (ys vs : List B) → Along R xs ys → Along R us vs → Along R (xs ++ us) (ys ++ vs)
-along_both R [] us [] vs h k = k
-along_both R [] us (y ∷ ys) vs h k = absurd h
-along_both R (x ∷ xs) us [] vs h k = absurd h
-along_both R (x ∷ xs) us (y ∷ ys) vs h k = (h.0, along_both R xs us ys vs h.1 k)
+use Rattle.tib_lex.proofs.Alongs.{along_append}
 
 along_mapped : {A B C D : Type 0} (R : A → B → Type 0) (S : C → D → Type 0) (f : A → C) (g : B → D) → ((x : A) (y : B) → R x y → S (f x) (g y)) → (xs : List A) (ys : List B) → Along R xs ys → Along S (map f xs) (map g ys)
 along_mapped R S f g to [] [] h = tt
@@ -86,7 +81,7 @@ module _ (labels others : List (List ℕ)) (f : ℕ → ℕ) (renumbers : Renumb
       by true true e = h
       by true false e = absurd (cc)
       by false true e = absurd (cc)
-      by false false e = along_both AreOneSymbol ks (x ∷ []) js (u ∷ []) h (a, tt)
+      by false false e = along_append AreOneSymbol ks (x ∷ []) js (u ∷ []) h (a, tt)
 
   inserted_same : (xs us ks js : List (ℕ × ℕ)) → Along AreOneSymbol xs us → Along AreOneSymbol ks js → Along AreOneSymbol (insert_all same_symbol ks xs) (insert_all same_symbol js us)
   inserted_same [] [] ks js h k = k
@@ -107,7 +102,7 @@ module _ (labels others : List (List ℕ)) (f : ℕ → ℕ) (renumbers : Renumb
   joined_same kids rest below more a b =
       subst (λ xs. Along AreOneSymbol xs (symbols_in (preorder below ++ preorder more))) (sym (symbols_append (preorder kids) (preorder rest)))
       (subst (Along AreOneSymbol (symbols_in (preorder kids) ++ symbols_in (preorder rest))) (sym (symbols_append (preorder below) (preorder more)))
-      (along_both AreOneSymbol (symbols_in (preorder kids)) (symbols_in (preorder rest)) (symbols_in (preorder below)) (symbols_in (preorder more)) a b))
+      (along_append AreOneSymbol (symbols_in (preorder kids)) (symbols_in (preorder rest)) (symbols_in (preorder below)) (symbols_in (preorder more)) a b))
 
   symbols_same : (ts us : Trees (Symbol ℕ Variable)) → HaveOneShape (AgreeOnLeft labels others) ts us → Along AreOneSymbol (symbols_in (preorder ts)) (symbols_in (preorder us))
   symbols_same none none h = tt
@@ -131,7 +126,7 @@ module _ (labels others : List (List ℕ)) (f : ℕ → ℕ) (renumbers : Renumb
   all_same [] (s ∷ ss) h = absurd h
   all_same (r ∷ rs) [] h = absurd h
   all_same (r ∷ rs) (s ∷ ss) h =
-      along_both AreOneSymbol (symbols_in (preorder_of r.left)) (all_symbols rs) (symbols_in (preorder_of s.left)) (all_symbols ss) (left_same r.left s.left h.0.left) (all_same rs ss h.1)
+      along_append AreOneSymbol (symbols_in (preorder_of r.left)) (all_symbols rs) (symbols_in (preorder_of s.left)) (all_symbols ss) (left_same r.left s.left h.0.left) (all_same rs ss h.1)
 
   -- the alphabets agree symbol by symbol
   alphabet_same : (rs ss : List (TransducerRule ℕ)) → Along (AreOneTransducerRule labels others) rs ss → Along AreOneSymbol (alphabet rs) (alphabet ss)
@@ -168,7 +163,7 @@ module _ (labels others : List (List ℕ)) (f : ℕ → ℕ) (renumbers : Renumb
   pairs_same none none h = tt
   pairs_same none (tree s below more) h = absurd h
   pairs_same (tree s kids rest) none h = absurd h
-  pairs_same (tree (label g) kids rest) (tree (label k) below more) h = along_both AreOnePair (holes kids) (holes rest) (holes below) (holes more) (pairs_same kids below h.1) (pairs_same rest more h.2)
+  pairs_same (tree (label g) kids rest) (tree (label k) below more) h = along_append AreOnePair (holes kids) (holes rest) (holes below) (holes more) (pairs_same kids below h.1) (pairs_same rest more h.2)
   pairs_same (tree (label g) kids rest) (tree (hole y) below more) h = absurd h.0
   pairs_same (tree (hole x) kids rest) (tree (label k) below more) h = absurd h.0
   pairs_same (tree (hole x) kids rest) (tree (hole y) below more) h = (h.0, pairs_same rest more h.2)
@@ -180,7 +175,7 @@ module _ (labels others : List (List ℕ)) (f : ℕ → ℕ) (renumbers : Renumb
   variables_same none none h = tt
   variables_same none (tree s below more) h = absurd h
   variables_same (tree s kids rest) none h = absurd h
-  variables_same (tree (label g) kids rest) (tree (label k) below more) h = along_both HaveOneNumber (holes kids) (holes rest) (holes below) (holes more) (variables_same kids below h.1) (variables_same rest more h.2)
+  variables_same (tree (label g) kids rest) (tree (label k) below more) h = along_append HaveOneNumber (holes kids) (holes rest) (holes below) (holes more) (variables_same kids below h.1) (variables_same rest more h.2)
   variables_same (tree (label g) kids rest) (tree (hole y) below more) h = absurd h.0
   variables_same (tree (hole x) kids rest) (tree (label k) below more) h = absurd h.0
   variables_same (tree (hole x) kids rest) (tree (hole y) below more) h = (h.0.0, variables_same rest more h.2)
@@ -208,13 +203,13 @@ module _ (labels others : List (List ℕ)) (f : ℕ → ℕ) (renumbers : Renumb
         state = h.state;
         left = h.left;
         right = tokens_same (holes_of r.right ++ left) (holes_of s.right ++ pairs_from any (left_out (variables_in s.right) (variables_of s.left)))
-            (along_both AreOnePair (holes_of r.right) left (holes_of s.right) (pairs_from any (left_out (variables_in s.right) (variables_of s.left))) pairs more);
+            (along_append AreOnePair (holes_of r.right) left (holes_of s.right) (pairs_from any (left_out (variables_in s.right) (variables_of s.left))) pairs more);
         cost = h.cost;
       }
 
   rules_agree : (any : ℕ) (rs ss : List (TransducerRule ℕ)) → Along (AreOneTransducerRule labels others) rs ss → Along (AreOneStringRule labels others) (domain_rules any rs) (domain_rules any ss)
   rules_agree any rs ss h =
-      along_both (AreOneStringRule labels others) (map (reading_rule any) rs) (map (any_rule any) (alphabet rs)) (map (reading_rule any) ss) (map (any_rule any) (alphabet ss))
+      along_append (AreOneStringRule labels others) (map (reading_rule any) rs) (map (any_rule any) (alphabet rs)) (map (reading_rule any) ss) (map (any_rule any) (alphabet ss))
       (along_mapped (AreOneTransducerRule labels others) (AreOneStringRule labels others) (reading_rule any) (reading_rule any) (reading_agrees any) rs ss h)
       (along_mapped AreOneSymbol (AreOneStringRule labels others) (any_rule any) (any_rule any) (any_agrees any) (alphabet rs) (alphabet ss) (alphabet_same rs ss h))
 

@@ -22,21 +22,7 @@ use Rattle.tib_transducer.proofs.Selecting.{any_has, has_any}
 use Rattle.tib_strings.specs.Rules.{pairs_of, states_in as states_on, variables_in as variables_on}
 use Rattle.tib_strings.specs.Range.{IsShaped as IsStringShaped, IsWithin as IsStringWithin, IsLinear as IsStringLinear, IsNondeleting}
 use Rattle.tib_domain.specs.Reading.{left_out, pairs_from, only_pairs, reading_rule, plain, any_rule}
-
--- what holds of each variable, where they are numbered from n on
-pub each_numbered : (vs : List ℕ) (n : ℕ) (xs : List Variable) → AreNumbered n xs → ((i : ℕ) → n ≤ i → i < n + length xs → Has vs i) → Each (λ x. Has vs x.number) xs
-each_numbered vs n [] a h = tt
-each_numbered vs n (x ∷ xs) a h = (
-  subst (Has vs) (sym a.0) (h n (omega arith) (omega arith)),
-  each_numbered vs (suc n) xs a.1 (λ i low high. h i (omega arith) (omega arith)),
-)
-
-pub numbered_each : (vs : List ℕ) (n : ℕ) (xs : List Variable) → AreNumbered n xs → Each (λ x. Has vs x.number) xs → (i : ℕ) → n ≤ i → i < n + length xs → Has vs i
-numbered_each vs n [] a h i low high = absurd (omega arith)
-numbered_each vs n (x ∷ xs) a h i low high = elim (nat_eq_cases n i) [
-  | inl k ↦ subst (Has vs) (a.0 ∙ k.0) h.0
-  | inr k ↦ numbered_each vs (suc n) xs a.1 h.1 i (omega (arith, k.0)) (omega arith)
-]
+use Rattle.tib_transducer.proofs.Counting.{each_numbered}
 
 -- a list of pairs alone has these pairs
 pub pairs_only : (xs : List (Pair ℕ)) → pairs_of (only_pairs xs) ≡ xs

@@ -26,11 +26,13 @@ use Rattle.tib_domain.specs.Alphabet.{alphabet, AreOver, symbols_in}
 use Rattle.tib_domain.specs.Reading.{pairs_from, only_pairs, reading_rule, any_rule}
 use Rattle.tib_domain.specs.Domain.{IsReadingCost, IsDomainSeries, DomainIsRead, DomainIsParsed, DomainIsLeast, NondeletingReadsAlphabet}
 use Rattle.tib_domain.proofs.Anything.{moves, count_bound, IsFrom, rule_from}
-use Rattle.tib_domain.proofs.LeftOut.{numbered_each, rest_of, reading_shaped, reading_within, reading_linear, reading_nondeleting, any_shaped, any_within, any_linear, any_nondeleting}
+use Rattle.tib_domain.proofs.LeftOut.{rest_of, reading_shaped, reading_within, reading_linear, reading_nondeleting, any_shaped, any_within, any_linear, any_nondeleting}
 use Rattle.tib_domain.proofs.Picking.{over_all}
 use Rattle.tib_domain.proofs.ReadBack.{reads_back, kept_one, kept_one_tree, one_side}
 use Rattle.tib_domain.proofs.ReadOn.{reads_on}
 use Rattle.tib_domain.proofs.Symbols.{over_fill, in_alphabet}
+use Rattle.tib_apply.proofs.Families.{least_some, least_is}
+use Rattle.tib_transducer.proofs.Counting.{numbered_each}
 
 -- all strings are empty
 abbrev AreEmpty : List (List ℕ) → Type 0
@@ -141,14 +143,6 @@ module _ {levelled weighted : Bool} {product : ℕ → ℕ → ℕ} (laws : Prod
       let parsed = parse_means laws (moves any rules) (moves_shaped any rules within shaped) (moves_linear any rules within shaped linear) (moves_nondeleting any rules within shaped) [] order grammar is t v in
       let read = domain_read laws any rules some within shaped t v in
       (λ h. read.0 (parsed.0 h), λ h. parsed.1 (read.1 h))
-
--- a known least is at most each member that is a cost, and is a member
-least_some : {S : ℕ → Type 0} (v : Option ℕ) → IsLeast S v → (c : ℕ) → S c → c ≤ most → (m : ℕ) × (v ≡ Some m) × (m ≤ c)
-least_some None h c s b = absurd (h.lower c s b)
-least_some (Some m) h c s b = (m, refl, h.lower c s b)
-
-least_is : {S : ℕ → Type 0} (v : Option ℕ) → IsLeast S v → (m : ℕ) → v ≡ Some m → S m
-least_is {S} v h m e = (subst (IsLeast S) e h).attained.0
 
 pub domain_is_least : (product : ℕ → ℕ → ℕ) → DomainIsLeast product
 domain_is_least product rules t costs h = record {

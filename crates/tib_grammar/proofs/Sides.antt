@@ -1,11 +1,14 @@
 -- Filling the holes of sides.
 use Rattle.std.specs.Prelude.{◌⊎◌, true, false}
-use Rattle.std.proofs.Common.{inl, inr, ◌≡◌, ℕ, List, [], ◌∷◌, length, map, refl, zero, suc, arith, ap, sym, ◌∙◌, length-append}
+use Rattle.std.proofs.Common.{inl, inr, ◌≡◌, ℕ, List, [], ◌∷◌, length, map, refl, zero, suc, arith, ap, sym, ◌∙◌, length-append, Err}
 use Rattle.std.proofs.lemmas.List.{length-map, map-append}
-use Rattle.tib_tree.specs.Trees.{Trees, none, tree, count, first_trees, other_trees, only, relabel, preorder, count-other}
+use Rattle.tib_tree.specs.Trees.{Trees, none, tree, count, first_trees, other_trees, only, relabel, preorder, count-other, preorder_of, parse, parse_of}
 use Rattle.tib_grammar.specs.Sides.{Symbol, label, hole, Side, holes, holes_of, fill, is_label, AreHoles, HolesAreLeaves, leaves, over, Lone, symbol_map}
 use Rattle.tib_lex.proofs.Lists.{append_nil}
 use Rattle.tib_lex.proofs.Numbers.{nat_eq_cases, nat_eq-true}
+use Rattle.std.specs.declared.result.Result.{Result}
+use Rattle.tib_tree.specs.declared.preorder.ShapeError.{ShapeError}
+use Rattle.tib_tree.specs.declared.preorder.ShapeError.TheVariants.{NotATree, OutOfMemory}
 
 pub count-fill : {A P : Type 0} (s : Trees (Symbol A P)) (ts : Trees A) → count ts ≡ length (holes s) → count (fill s ts) ≡ count s
 count-fill none ts h = refl
@@ -159,3 +162,21 @@ pub length-holes : {A P : Type 0} (kids : Trees (Symbol A P)) → AreHoles kids 
 length-holes none a = refl
 length-holes (tree (label f) ks rest) a = absurd a
 length-holes (tree (hole p) ks rest) a = ap suc (length-holes rest a)
+
+-- the items of a tree are not refused
+pub no_fault :
+    {T : Type 0} (r : Result T ShapeError) (Is : Side ℕ ℕ → Type 0) (e : ShapeError) → r ≡ Err e → (r ≡ Err NotATree → (s : Side ℕ ℕ) → Is s → ⊥) → (r ≡ Err OutOfMemory → ⊥) →
+    (s : Side ℕ ℕ) → Is s → ⊥
+no_fault r Is NotATree at not_a_tree no_memory s is = not_a_tree at s is
+no_fault r Is OutOfMemory at not_a_tree no_memory s is = no_memory at
+
+-- sides with one preorder are the same
+pub side_same : {P : Type 0} (s t : Side ℕ P) → preorder_of s ≡ preorder_of t → s ≡ t
+side_same s t e =
+    let both : only s ≡ only t = sym (parse_of s) ∙ ap parse e ∙ parse_of t in
+    let labels : s.label ≡ t.label = cc both in
+    let kids : s.kids ≡ t.kids = cc both in
+    ap (λ x. record { label = x; kids = s.kids }) labels ∙ ap (λ ks. record { label = t.label; kids = ks }) kids
+
+pub is_label-same : (f : ℕ) (s : Symbol ℕ ℕ) → s ≡ label f → is_label f s ≡ true
+is_label-same f s e = elim (is_label_cases s f) [ inl y ↦ y.1 | inr n ↦ absurd (n.0 e) ]

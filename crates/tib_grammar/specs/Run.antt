@@ -47,3 +47,7 @@ pub record IsCost (product : ℕ → ℕ → ℕ) (rules : List (Rule ℕ)) (qs 
   pub are_runs : AreRuns rules qs runs
   pub yielded : yields rules runs ≡ ts
   pub costs : cost product rules runs ≡ c
+
+-- every rule costs nothing, as all do in Boolean
+abbrev pub AreFree : List (Rule ℕ) → Type 0
+AreFree rules = (n : ℕ) → n < length rules → (rule_at rules n).cost ≡ 0

@@ -113,12 +113,12 @@ rules_same scale names labels d c (w ∷ rows) (q ∷ qs) [] h k = absurd k
 rules_same scale names labels d c (w ∷ rows) (q ∷ qs) (r ∷ rs) h k =
     ap (λ (x : Rule ℕ). x ∷ qs) (rule_same scale names labels d c w q r h.0 k.0) ∙ ap (λ (xs : List (Rule ℕ)). r ∷ xs) (rules_same scale names labels d c rows qs rs h.1 k.1)
 
-first_is_name : (scale : Scale) (names labels : List (List ℕ)) (words : List Word) (r : Rule ℕ) → SpellsRuleOf scale names labels words r → FirstIsWord words → IsStateName (first_text words)
+pub first_is_name : (scale : Scale) (names labels : List (List ℕ)) (words : List Word) (r : Rule ℕ) → SpellsRuleOf scale names labels words r → FirstIsWord words → IsStateName (first_text words)
 first_is_name scale names labels words r s f =
     subst (λ (t : List ℕ). IsStateName t) (ap first_text s.words_are)
     (record { is_name = subst (λ (ws : List Word). FirstIsWord ws) (sym s.words_are) f; no_stop = s.plain })
 
-firsts_are_names : (scale : Scale) (names labels : List (List ℕ)) (rows : List (List Word)) (rules : List (Rule ℕ)) → Along (SpellsRuleOf scale names labels) rows rules → Each FirstIsWord rows → Each IsStateName (map first_text rows)
+pub firsts_are_names : (scale : Scale) (names labels : List (List ℕ)) (rows : List (List Word)) (rules : List (Rule ℕ)) → Along (SpellsRuleOf scale names labels) rows rules → Each FirstIsWord rows → Each IsStateName (map first_text rows)
 firsts_are_names scale names labels [] rules a f = tt
 firsts_are_names scale names labels (w ∷ rows) [] a f = absurd a
 firsts_are_names scale names labels (w ∷ rows) (r ∷ rules) a f = (first_is_name scale names labels w r a.0 f.0, firsts_are_names scale names labels rows rules a.1 f.1)

@@ -9,7 +9,7 @@ use Rattle.tib_canon.specs.TrimmedForms.{IsTrimmedForm}
 use Rattle.tib_determinize.specs.Determinization.{determinization}
 use Rattle.tib_count.specs.Counts.{IsEndless, IsCountOf}
 use Rattle.tib_count.specs.Counted.{IsRun, IsTree}
-use Rattle.tib_count.specs.Laws.{AreFree, AsManyTrees}
+use Rattle.tib_count.specs.Laws.{AsManyTrees}
 use Rattle.tib_count.specs.declared.count.Count.{Count}
 use Rattle.tib_count.specs.declared.count.Count.TheVariants.{Endless}
 use Rattle.tib_operations.specs.Count.{count_makes}
@@ -18,6 +18,7 @@ use Rattle.tib_operations.specs.Made.{normal_form, IsMadeFault}
 use Rattle.tib_operations.specs.declared.status.Status.{Status}
 use Rattle.tib_operations.specs.declared.status.Status.TheVariants as statuses
 use Rattle.tib_operations.proofs.VectorsByText.{more_vectors}
+use Rattle.tib_grammar.specs.Run.{AreFree}
 
 module _ (as_many : AsManyTrees) (g form : GrammarOf) (free : AreFree g.rules) (form_free : AreFree form.rules) (same : HasSameSeries max g form) where
   -- a grammar has as many trees as its trimmed normal form

@@ -9,7 +9,7 @@ use Rattle.tib_lex.proofs.Places.{distinct_at}
 use Rattle.tib_tree.specs.Trees.{Trees, only}
 use Rattle.tib_grammar.specs.Forms.{AreNormal}
 use Rattle.tib_grammar.specs.GrammarOf.{GrammarOf, named_rule}
-use Rattle.tib_grammar.specs.Run.{rule_at}
+use Rattle.tib_grammar.specs.Run.{rule_at, AreFree}
 use Rattle.tib_grammar.specs.Sides.{holes_of}
 use Rattle.tib_grammar.specs.declared.Rule.{Rule}
 use Rattle.tib_grammar.proofs.Below.{below_has}
@@ -27,7 +27,7 @@ use Rattle.tib_determinize.proofs.Starting.{forth}
 use Rattle.tib_compare.proofs.Reaching.{has_tree}
 use Rattle.tib_count.specs.Counts.{IsCountOf}
 use Rattle.tib_count.specs.Counted.{IsRun, IsRunFrom, IsTree, HaveRuns}
-use Rattle.tib_count.specs.Laws.{AreFree, AsManyTrees, TreesOfDeterministic}
+use Rattle.tib_count.specs.Laws.{AsManyTrees, TreesOfDeterministic}
 use Rattle.tib_count.specs.declared.count.Count.{Count}
 use Rattle.tib_operations.proofs.OfDeterminize.{vectors_over}
 use Rattle.tib_operations.proofs.OfForms.{are_free}

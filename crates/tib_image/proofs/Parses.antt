@@ -36,8 +36,9 @@ use Rattle.tib_image.proofs.StringRuns.{one_more, one_run, length-strings}
 use Rattle.tib_apply.proofs.Restricting.{IsListed, AreAdmitted, binds}
 use Rattle.tib_image.specs.RestrictedLabels.{are_listed}
 use Rattle.tib_lex.proofs.Lists.{map_twice, each_mapped as each_map}
-use Rattle.tib_apply.proofs.Leaves.{place_number, all_stand, count-bound, root_label, map_same_at, get_map, map_long, each_to, all_below, picked_admitted}
+use Rattle.tib_apply.proofs.Leaves.{root_label, map_same_at, get_map, map_long, each_to, all_below, picked_admitted}
 use Rattle.tib_image.proofs.Leaves.{state_of, span_of, restriction_of, pairs_along}
+use Rattle.tib_transducer.proofs.Counting.{place_number, all_stand, count-bound}
 
 -- what a key's part of the string is
 abbrev pub text_of : List ℕ → ℕ × ℕ × ℕ × ℕ → List ℕ

@@ -109,7 +109,7 @@ numbered states numbers q n h =
     let e : number_in numbers q ≡ at.0 = ap (number_in numbers) (sym at.2) ∙ n at.0 at.1 in
     record { below = omega (arith, at.1); back = ap (λ i. get_or states i 0) e ∙ at.2 }
 
-all_mapped : (n : ℕ) (f : ℕ → ℕ) (qs : List ℕ) → ((q : ℕ) → Has qs q → f q < n) → AllBelow n (map f qs)
+pub all_mapped : (n : ℕ) (f : ℕ → ℕ) (qs : List ℕ) → ((q : ℕ) → Has qs q → f q < n) → AllBelow n (map f qs)
 all_mapped n f [] h = tt
 all_mapped n f (q ∷ qs) h = (h q (inl refl), all_mapped n f qs (λ p k. h p (inr k)))
 

@@ -115,7 +115,7 @@ marks_hole x state a b s t e m =
 pub marks_label : (x : Item ℕ) (f rank : ℕ) (a : List Bool) (s : List ℕ) → x ≡ Label f rank → Marks (Has (holes_in (x ∷ []))) a a s s
 marks_label x f rank a s e = subst (λ (y : Item ℕ). Marks (Has (holes_in (y ∷ []))) a a s s) (sym e) (marks_none (Has []) a s (λ q k. k))
 
-holes_append : (xs ys : List (Item ℕ)) → holes_in (xs ++ ys) ≡ holes_in xs ++ holes_in ys
+pub holes_append : (xs ys : List (Item ℕ)) → holes_in (xs ++ ys) ≡ holes_in xs ++ holes_in ys
 holes_append [] ys = refl
 holes_append (Label f rank ∷ xs) ys = holes_append xs ys
 holes_append (Hole q ∷ xs) ys = ap (λ zs. q ∷ zs) (holes_append xs ys)

@@ -37,8 +37,9 @@ fn add_states(items: &[Item<u32>], states: &mut Vec<u32>) -> Result<(), AllocErr
     Ok(())
 }
 
-/// Appends the states of a right side.
-fn add_side(rule: &Rule<u32>, states: &mut Vec<u32>) -> Result<(), AllocError>
+/// Appends the states in the right side of a rule, from left to right. Err only if memory is
+/// refused; then some of them may be appended. Cost: one pass over the side.
+pub fn add_side(rule: &Rule<u32>, states: &mut Vec<u32>) -> Result<(), AllocError>
     ensures { OnOk result (states.new.items ≡ states.old.items ++ holes_of rule.now.right) }
 {
     add_states(rule.right.items(), states)

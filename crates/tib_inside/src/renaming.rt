@@ -42,7 +42,8 @@ fn names_of(alloc: Global, names: &Names, states: &[u32]) -> Result<Vec<Vec<u8>>
     Ok(texts)
 }
 
-/// The names of some states that ascend, as names. Err only if memory is refused.
+/// The names of some states that ascend, as names. Err only if memory is refused. Cost: each name
+/// is copied and put into a table once.
 pub fn kept_names(alloc: Global, names: &Names, states: &[u32]) -> Result<Names, AllocError>
     requires below { AreBelow (length names.now) states.now }
     requires ascend { AscendsByPlace states.now }

@@ -19,10 +19,10 @@ use Rattle.tib_intersect.specs.PairRules.{Reads}
 use Rattle.tib_intersect.specs.Matching.{positions_with, has_shape}
 use Rattle.tib_intersect.specs.PairListing.{states_of, Agree, IsListed, Stands, AreListedFrom}
 use Rattle.tib_lex.proofs.Booleans.{and-true, and-both}
-use Rattle.tib_lex.proofs.Numbers.{nat_eq-true}
+use Rattle.tib_lex.proofs.Numbers.{nat_eq-true, nat_eq-same}
 use Rattle.tib_lex.proofs.Members.{each_of, has_at, has_left, has_right, has_either}
 use Rattle.tib_lex.proofs.Places.{not_before}
-use Rattle.tib_grammar.proofs.Sides.{length-holes, one_label, is_label-true, is_label_cases}
+use Rattle.tib_grammar.proofs.Sides.{length-holes, one_label, is_label-true, is_label_cases, is_label-same}
 
 module _ (test : Rule ℕ → Bool) where
   -- the rules that pass are those at these positions
@@ -62,14 +62,6 @@ module _ (test : Rule ℕ → Bool) where
           ap (λ j. get_or (r ∷ rules) j no_rule) (sym z)
       step more true (suc m) h = more m (omega arith)
       step more false m h = more m h
-
--- numbers that are the same pass the test
-nat_eq-same : (a b : ℕ) → a ≡ b → nat_eq a b ≡ true
-nat_eq-same a b e = grind (arith, nat_tests)
-
--- so does a label with itself
-is_label-same : (f : ℕ) (s : Symbol ℕ ℕ) → s ≡ label f → is_label f s ≡ true
-is_label-same f s e = elim (is_label_cases s f) [ inl y ↦ y.1 | inr n ↦ absurd (n.0 e) ]
 
 pub record IsOfShape (s : ℕ × ℕ × ℕ) (r : Rule ℕ) : Type 0 where
   pub left : r.left ≡ s.0

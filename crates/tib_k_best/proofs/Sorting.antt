@@ -9,7 +9,7 @@ use Rattle.std.proofs.lemmas.Cmp.{ranked}
 use Rattle.std.proofs.lemmas.List.Sorted.{ranks_by, sorted_far, Contains-permutation, IsPermutation-sym, length_permutation}
 use Rattle.std.proofs.lemmas.Map.Keys.{IsDistinct-IsPermutation, IsDistinct-from_apart, apart_from_distinct}
 use Rattle.tib_lex.specs.Lists.{Has}
-use Rattle.tib_lex.proofs.Members.{has_at, at_has}
+use Rattle.tib_lex.proofs.Members.{has_at, at_has, has_permuted}
 use Rattle.tib_lex.proofs.Numbers.{nat_eq_cases, nat_eq-itself}
 use Rattle.tib_lex.proofs.PairOrder.{pair_total}
 use Rattle.tib_lex.specs.PairOrder.{pair_cmp}
@@ -43,12 +43,6 @@ in_turn x y h n = by (nat_cmp y.0 x.0) (nat_cmp y.1 x.1) (ranked y.0 x.0 (nat_cm
     by Equal Equal r s e = absurd (other (sym s))
     by Equal Greater r s e = inr (sym r, s)
     by Greater b r s e = inl r
-
-has_permuted : (xs ys : List (ℕ × ℕ)) (x : ℕ × ℕ) → IsPermutation xs ys → Has xs x → Has ys x
-has_permuted xs ys x p h =
-    let a = at_has xs x x h in
-    let c : Contains ys x = Contains-permutation xs ys x p (a.0, a.1, a.2) in
-    subst (Has ys) c.2 (has_at ys c.0 x c.1)
 
 -- the numbered costs, sorted
 pub by_cost : (ws : List ℕ) (ps now : List (ℕ × ℕ)) → AreNumbered ws (length ws) ps → IsPermutation ps now → IsSorted pair_cmp now → AreByCost ws now

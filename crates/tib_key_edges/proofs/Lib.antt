@@ -25,3 +25,4 @@ pub mod Flattened
 pub mod Searching
 pub mod Leasts
 pub mod Pieces
+pub mod Reordered

@@ -2,7 +2,7 @@
 use Rattle.std.specs.Prelude.{◌≡◌, ◌⊎◌, ℕ, ◌+◌, ◌<◌, ◌≤◌, List, [], ◌∷◌, ◌++◌, length, refl}
 use Rattle.std.proofs.Common.{zero, suc, arith, ap, sym, ◌∙◌, subst, inl, inr, get_or, length-append}
 use Rattle.tib_lex.specs.Lists.{Has, Distinct, Along, total}
-use Rattle.tib_lex.proofs.Alongs.{total_fewer}
+use Rattle.tib_lex.proofs.Alongs.{total_fewer, along_self, total_one, no_longer}
 use Rattle.tib_lex.proofs.Lists.{head_is, tail_is}
 use Rattle.tib_lex.proofs.Members.{has_left, has_right, has_either}
 use Rattle.tib_tree.specs.Trees.{Tree}
@@ -16,22 +16,6 @@ use Rattle.tib_ranked_trees.specs.declared.lists.Candidate.{Candidate}
 use Rattle.tib_ranked_trees.proofs.Growing.{offer_kept, tuple_kept}
 
 -- lists of distinct members
-
-along_self : {A : Type 0} (xs : List A) → Along (λ (x : A) (y : A). x ≡ y) xs xs
-along_self [] = tt
-along_self (x ∷ xs) = (refl, along_self xs)
-
-total_one : {A : Type 0} (xs : List A) → total (λ (x : A). 1) xs ≡ length xs
-total_one [] = refl
-total_one (x ∷ xs) = omega (arith, total_one xs)
-
--- a list of distinct members is no longer than one that has them
-no_longer : {A : Type 0} (xs ys : List A) → Distinct xs → ((x : A) → Has xs x → Has ys x) → length xs ≤ length ys
-no_longer {A} xs ys once among =
-    let fewer : total (λ (x : A). 1) xs ≤ total (λ (x : A). 1) ys =
-    total_fewer (λ (x : A) (y : A). x ≡ y) (λ (x : A). 1) (λ o e f a b. sym a ∙ b) xs xs ys ys once (along_self xs) (along_self ys) among
-    in
-    omega (arith, fewer, total_one xs, total_one ys)
 
 -- a list before and after a member
 record IsSplit {A : Type 0} (ys : List A) (x : A) : Type 0 where

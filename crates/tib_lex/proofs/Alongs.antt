@@ -111,3 +111,21 @@ module _ {O E : Type 0} (edge : O → E → Type 0) (parts : E → ℕ) where
       (λ x h. elim (w.stays x (among x (inr h))) [ inl s ↦ absurd (d.0 (subst (Has os) (sym s) h)) | inr k ↦ k ])
       in
       omega (arith, w.parts_are)
+
+-- a list beside itself
+pub along_self : {A : Type 0} (xs : List A) → Along (λ (x : A) (y : A). x ≡ y) xs xs
+along_self [] = tt
+along_self (x ∷ xs) = (refl, along_self xs)
+
+-- a list has as many members as ones in a sum over it
+pub total_one : {A : Type 0} (xs : List A) → total (λ (x : A). 1) xs ≡ length xs
+total_one [] = refl
+total_one (x ∷ xs) = omega (arith, total_one xs)
+
+-- a list without doubles is no longer than one that has its members
+pub no_longer : {A : Type 0} (xs ys : List A) → Distinct xs → ((x : A) → Has xs x → Has ys x) → length xs ≤ length ys
+no_longer {A} xs ys once among =
+    let fewer : total (λ (x : A). 1) xs ≤ total (λ (x : A). 1) ys =
+    total_fewer (λ (x : A) (y : A). x ≡ y) (λ (x : A). 1) (λ o e f a b. sym a ∙ b) xs xs ys ys once (along_self xs) (along_self ys) among
+    in
+    omega (arith, fewer, total_one xs, total_one ys)

@@ -1,9 +1,9 @@
 -- Laws of lists: their parts, their appending, their mapping, and what holds of each member.
-use Rattle.std.specs.Prelude.{◌≡◌, ◌<◌, ◌+◌, ℕ, Bool, not, cond, List, [], ◌∷◌, ◌++◌, length, map, Some, None, nat_lt, refl}
+use Rattle.std.specs.Prelude.{◌≡◌, ◌<◌, ◌+◌, ℕ, Bool, not, cond, List, [], ◌∷◌, ◌++◌, length, map, Some, None, nat_lt, refl, take, drop}
 use Rattle.std.specs.Global.{Vec}
 use Rattle.std.specs.List.{prefix_len}
 use Rattle.std.proofs.Common.{suc, arith, ap, sym, ◌∙◌, get_or, position, inl, inr, length-append}
-use Rattle.std.proofs.lemmas.List.{length-map}
+use Rattle.std.proofs.lemmas.List.{length-map, take_at}
 use Rattle.tib_lex.specs.Lists.{Has, Each, Ascends, total}
 
 -- equal lists have the same first member, and the same members after it
@@ -120,3 +120,7 @@ length_map f xs = length-map xs f
 -- a list with one more member is longer by one
 pub length-more : {A : Type 0} (xs : List A) (x : A) → length (xs ++ x ∷ []) ≡ length xs + 1
 length-more xs x = length-append xs (x ∷ [])
+
+-- what a list becomes where all of it is written anew
+pub refilled : {A : Type 0} (xs ws : List A) (n : ℕ) → n ≡ length xs → length ws ≡ length xs → take n (ws ++ drop (length ws) xs) ≡ ws
+refilled xs ws n e h = take_at ws (drop (length ws) xs) n (omega (arith, e, h))

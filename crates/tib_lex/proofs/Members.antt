@@ -1,7 +1,8 @@
 -- Members of lists: their places, the lists that they are in, and what holds of each.
-use Rattle.std.specs.Prelude.{◌≡◌, ℕ, ◌<◌, List, [], ◌∷◌, length}
+use Rattle.std.specs.Prelude.{◌≡◌, ℕ, ◌<◌, List, [], ◌∷◌, length, IsPermutation}
 use Rattle.std.proofs.Common.{◌⊎◌, ◌++◌, get_or, Contains, refl, sym, subst, arith, zero, suc, inl, inr}
 use Rattle.tib_lex.specs.Lists.{Has, Each, Distinct, Ascends}
+use Rattle.std.proofs.lemmas.List.Sorted.{Contains-permutation}
 
 pub each_has : {A : Type 0} (P : A → Type 0) (xs : List A) (x : A) → Each P xs → Has xs x → P x
 each_has P [] x e h = absurd h
@@ -73,3 +74,15 @@ least_first (x ∷ xs) a h = elim h [
   | inl e ↦ (omega arith, e)
   | inr k ↦ let low : x < 0 = each_has (λ y. x < y) xs 0 a.0 k in absurd (omega arith)
 ]
+
+pub has_permuted : (xs ys : List (ℕ × ℕ)) (x : ℕ × ℕ) → IsPermutation xs ys → Has xs x → Has ys x
+has_permuted xs ys x p h =
+    let a = at_has xs x x h in
+    let c : Contains ys x = Contains-permutation xs ys x p (a.0, a.1, a.2) in
+    subst (Has ys) c.2 (has_at ys c.0 x c.1)
+
+-- what holds of each holds at a place
+pub each_at : {A : Type 0} (P : A → Type 0) (xs : List A) (n : ℕ) (d : A) → Each P xs → n < length xs → P (get_or xs n d)
+each_at P [] n d e h = absurd (omega arith)
+each_at P (x ∷ xs) zero d e h = e.0
+each_at P (x ∷ xs) (suc n) d e h = each_at P xs n d e.1 (omega arith)

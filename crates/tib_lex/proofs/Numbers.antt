@@ -38,3 +38,6 @@ nat_le_cases a b = grind (arith, nat_tests)
 -- of two numbers the one is below the other, or they are the same
 pub nat_three : (a b : ℕ) → (a < b) ⊎ ((a ≡ b) ⊎ (b < a))
 nat_three a b = grind arith
+
+pub nat_eq-same : (a b : ℕ) → a ≡ b → nat_eq a b ≡ true
+nat_eq-same a b e = grind (arith, nat_tests)

@@ -12,6 +12,7 @@ use Rattle.tib_lex.specs.Lists.{Has, Each, Ascends}
 use Rattle.tib_grammar.proofs.Members.{each_has, each_of, each_more, has_at, at_has, has_left, has_right, has_either}
 use Rattle.tib_match.specs.Merging.{AreInOnePlace, place_cmp, IsAgain, AreMerged}
 use Rattle.tib_match.specs.declared.partial.Partial.{Partial}
+use Rattle.tib_lex.proofs.PairOrder.{both_equal, less_goes_on}
 
 -- the order by place and then by cost
 abbrev partial_cmp : Partial → Partial → Ordering
@@ -35,11 +36,6 @@ back Less e = refl
 back Equal e = absurd (cc)
 back Greater e = absurd (cc)
 
-both_equal : (a b : Ordering) → ordering_then a b ≡ Equal → (a ≡ Equal) × (b ≡ Equal)
-both_equal Less b e = absurd (cc)
-both_equal Equal b e = (refl, e)
-both_equal Greater b e = absurd (cc)
-
 list_same : (xs ys : List ℕ) → slice_cmp nat_cmp xs ys ≡ Equal → xs ≡ ys
 list_same [] [] e = refl
 list_same [] (y ∷ ys) e = absurd (cc)
@@ -47,13 +43,6 @@ list_same (x ∷ xs) [] e = absurd (cc)
 list_same (x ∷ xs) (y ∷ ys) e =
     let t = both_equal (nat_cmp x y) (slice_cmp nat_cmp xs ys) e in
     ap (λ (z : ℕ). z ∷ xs) (ranked x y Equal (sym t.0)) ∙ ap (λ (zs : List ℕ). y ∷ zs) (list_same xs ys t.1)
-
-less_goes_on : (a b c : Ordering) → ordering_then a b ≡ Less → is_lt (ordering_then a (ordering_then b c)) ≡ true
-less_goes_on Less b c e = refl
-less_goes_on Equal Less c e = refl
-less_goes_on Equal Equal c e = absurd (cc)
-less_goes_on Equal Greater c e = absurd (cc)
-less_goes_on Greater b c e = absurd (cc)
 
 last_decides : (a b c : Ordering) → a ≡ Equal → b ≡ Equal → is_lt c ≡ true → is_lt (ordering_then a (ordering_then b c)) ≡ true
 last_decides a b c e k h = rw (e, k, h) refl

@@ -14,7 +14,7 @@ use Rattle.tib_tree.specs.Trees.{Tree, Trees, none, tree, only}
 use Rattle.tib_grammar.specs.Forms.{IsLabel, AreNormal}
 use Rattle.tib_grammar.specs.GrammarOf.{named_rule}
 use Rattle.tib_grammar.specs.Range.{IsInRange, AreInRange}
-use Rattle.tib_grammar.specs.Run.{rule_at, no_rule}
+use Rattle.tib_grammar.specs.Run.{rule_at, no_rule, AreFree}
 use Rattle.tib_grammar.specs.Sides.{Symbol, label, hole, leaves}
 use Rattle.tib_grammar.specs.declared.Rule.{Rule}
 use Rattle.tib_grammar_file.specs.Printable.{HavePlainLabels, IsPrintable, ArePrintable}
@@ -34,7 +34,7 @@ use Rattle.tib_determinize.specs.VectorGrammar.{IsDeterminized}
 use Rattle.tib_determinize.specs.Vectors.{VectorOf, vector_at}
 use Rattle.tib_compare.specs.Answered.{SomeDiffers, NoneDiffers}
 use Rattle.tib_compare.specs.Beside.{beside, moved, raised}
-use Rattle.tib_compare.specs.Compared.{AreFree, HasCost, Agree, IsOnlyIn, IsInOne, IsLeastOnly, IsCompared}
+use Rattle.tib_compare.specs.Compared.{HasCost, Agree, IsOnlyIn, IsInOne, IsLeastOnly, IsCompared}
 use Rattle.tib_compare.specs.Wanted.{differs}
 use Rattle.tib_compare.specs.declared.compared.Compared.{Compared}
 use Rattle.tib_compare.specs.declared.compared.Compared.TheVariants.{Same, First, Second}

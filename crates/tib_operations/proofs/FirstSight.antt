@@ -30,6 +30,7 @@ use Rattle.tib_trim.specs.TrimmedFile.{HasRules, HaveCosts}
 use Rattle.tib_trim.proofs.Assembled.{costs_range}
 use Rattle.tib_trim.proofs.FirstSeen.{firsts_has, has_firsts, firsts_more, firsts_same, seen_or_new, states_has, states_below, states_distinct}
 use Rattle.tib_trim.proofs.Numbered.{all_stay, rule_stays, kept_state_names}
+use Rattle.tib_canon.proofs.PrintableRules.{plain_back}
 
 -- the names of the left states, as they are in the lines
 lefts_are :
@@ -76,11 +77,6 @@ module _ (name : ℕ → List ℕ) (count : ℕ) (apart : (p q : ℕ) → p < co
           | inr k ↦ elim k [ inl e ↦ subst (λ (x : ℕ). x < count) e (b q (inl refl)) | inr bad ↦ absurd bad ]
         ]) (λ p h. b p (inr h))),
   )
-
-plain_back : (labels : List (List ℕ)) (f : ℕ → ℕ) (ts : Trees (Symbol ℕ ℕ)) → HavePlainLabels labels (relabel (symbol_map f) ts) → HavePlainLabels labels ts
-plain_back labels f none h = tt
-plain_back labels f (tree (label g) kids rest) h = (h.0, h.1, plain_back labels f kids h.2, plain_back labels f rest h.3)
-plain_back labels f (tree (hole q) kids rest) h = (plain_back labels f kids h.0, plain_back labels f rest h.1)
 
 -- what is the same at each rule is the same of all
 map_each :

@@ -17,7 +17,7 @@ use Rattle.tib_grammar_file.proofs.Relabelled.{rule_with, rules_with, trees_with
 use Rattle.tib_grammar_file.proofs.RunsByText.{DifferInLabels, differ_back, differ_with, runs_kept, cost_kept}
 use Rattle.tib_canon.proofs.CanonicalByText.{labels_back}
 use Rattle.tib_canon.proofs.One.{ascending_same}
-use Rattle.tib_canon.proofs.TrimmedByText.{grammar_with, EachLabel, EachLabelIn, rules_commute, range_with}
+use Rattle.tib_canon.proofs.TrimmedByText.{grammar_with, EachLabel, EachLabelIn, rules_commute, range_with, positions_with}
 use Rattle.tib_canon.proofs.TrimmedOnce.{fit_from, rule_told}
 use Rattle.tib_trim.specs.Complete.{IsInCompleteRun, IsCostWith, IsThroughCost}
 use Rattle.tib_trim.specs.FirstSeen.{firsts, states_of}
@@ -65,14 +65,6 @@ pub position_below : (product : ℕ → ℕ → ℕ) (rules : List (Rule ℕ)) (
 position_below product rules positions a n h =
     let r = (a.are n).0 h in
     stands_below rules (0 ∷ []) r.run n r.complete.from_start r.stands
-
-positions_with :
-    (f : ℕ → ℕ) (rules : List (Rule ℕ)) (positions : List ℕ) → Each (λ n. n < length rules) positions →
-    rules_with f (map (rule_at rules) positions) ≡ map (rule_at (rules_with f rules)) positions
-positions_with f rules [] e = refl
-positions_with f rules (n ∷ positions) e =
-    ap (λ (x : Rule ℕ). x ∷ rules_with f (map (rule_at rules) positions)) (sym (at_with f rules n e.0))
-    ∙ ap (λ (xs : List (Rule ℕ)). rule_at (rules_with f rules) n ∷ xs) (positions_with f rules positions e.1)
 
 lefts_with : (f : ℕ → ℕ) (rules : List (Rule ℕ)) → map (λ (r : Rule ℕ). r.left) (rules_with f rules) ≡ map (λ (r : Rule ℕ). r.left) rules
 lefts_with f [] = refl

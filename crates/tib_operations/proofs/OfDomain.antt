@@ -54,6 +54,7 @@ use Rattle.tib_operations.proofs.MadeParts.{IsEither}
 use Rattle.tib_operations.proofs.OfForward.{are_linear}
 use Rattle.tib_operations.proofs.OfParse.{parsed_once, parse_by_text, parse_either, parse_there}
 use Rattle.tib_operations.proofs.PlainMoves.{IsSoundTransducer}
+use Rattle.tib_canon.proofs.PrintableRules.{plain_nothing}
 
 -- what holds of members holds of those that are inserted
 module _ (P : ℕ × ℕ → Type 0) where
@@ -69,11 +70,6 @@ module _ (P : ℕ × ℕ → Type 0) where
   inserted_each (x ∷ xs) ks e h = inserted_each xs (insert_key same_symbol ks x) (key_each ks x e h.0) h.1
 
 -- its left-hand sides and costs can be written
-
-plain_nothing : (scale : Scale) → IsPlainCost scale 0
-plain_nothing scales.Plain = omega arith
-plain_nothing scales.Reversed = omega arith
-plain_nothing scales.Unweighted = refl
 
 module _ (labels : List (List ℕ)) where
   abbrev IsPlainSymbol : ℕ × ℕ → Type 0

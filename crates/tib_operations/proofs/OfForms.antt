@@ -12,7 +12,7 @@ use Rattle.tib_grammar_file.specs.Printed.{AreLabelled}
 use Rattle.tib_expand.specs.Reached.{IsBeyond}
 use Rattle.tib_canon.specs.TrimmedForms.{IsTrimmedForm}
 use Rattle.tib_ranked_trees.proofs.Ranks.{tree_below}
-use Rattle.tib_compare.specs.Compared.{AreFree, HasCost, Agree, IsOnlyIn, IsInOne, IsLeastOnly, IsCompared, IsTooLarge}
+use Rattle.tib_compare.specs.Compared.{HasCost, Agree, IsOnlyIn, IsInOne, IsLeastOnly, IsCompared, IsTooLarge}
 use Rattle.tib_compare.specs.Faults.{hunted, IsCause, IsWithin}
 use Rattle.tib_compare.specs.declared.compared.Compared.{Compared}
 use Rattle.tib_compare.specs.declared.compared.Compared.TheVariants.{Same, First, Second}
@@ -23,6 +23,7 @@ use Rattle.tib_operations.specs.declared.status.Status.{Status}
 use Rattle.tib_operations.specs.declared.status.Status.TheVariants as statuses
 use Rattle.tib_operations.specs.Compare.{forms_of_both, compare_makes, HasAnswerLabels, HasCompareText, HasLargeLeast, IsFormsFault, IsCompareFault}
 use Rattle.tib_operations.proofs.BothByText.{more_of_both}
+use Rattle.tib_grammar.specs.Run.{AreFree}
 
 pub turned : (one two : List (Rule ℕ)) → HaveSameSeries max one two → HaveSameSeries max two one
 turned one two s t v = ((s t v).1, (s t v).0)

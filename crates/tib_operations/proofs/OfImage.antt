@@ -41,7 +41,7 @@ use Rattle.tib_canon.proofs.ConstructionOnce.{construction_once}
 use Rattle.tib_canon.proofs.KeySeries.{canonical_series}
 use Rattle.tib_canon.proofs.EdgesByText.{edge_with, key_with}
 use Rattle.tib_canon.proofs.ReachedOnce.{edge_given, ends_stand}
-use Rattle.tib_canon.proofs.Sorting.{both_equal, number_same}
+use Rattle.tib_canon.proofs.Sorting.{number_same}
 use Rattle.tib_operations.specs.Image.{imaging, IsTheTree, HasImageSeries, HasImageText}
 use Rattle.tib_operations.specs.Made.{HasReachedFrom}
 use Rattle.tib_operations.specs.Moves.{ArePlainMoves}
@@ -50,6 +50,7 @@ use Rattle.tib_operations.proofs.MovesByText.{moves_with, moves_given}
 use Rattle.tib_operations.proofs.Tables.{sizes_kept}
 use Rattle.tib_operations.proofs.PlainEdges.{keyed_ends, keyed_plain}
 use Rattle.tib_operations.proofs.PlainMoves.{IsSoundTransducer}
+use Rattle.tib_lex.proofs.PairOrder.{both_equal}
 
 same_key : {a b c d : ℕ} → a ≡ c → b ≡ d → ◌≡◌ {A = ℕ × ℕ} (a, b) (c, d)
 same_key x y = λ i. (x i, y i)

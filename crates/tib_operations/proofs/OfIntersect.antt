@@ -35,7 +35,7 @@ use Rattle.tib_canon.proofs.KeySeries.{canonical_series}
 use Rattle.tib_canon.proofs.One.{series_on}
 use Rattle.tib_canon.proofs.PrintableRules.{form_printable, trimmed_printable}
 use Rattle.tib_canon.proofs.ReachedOnce.{edge_given, ends_stand}
-use Rattle.tib_canon.proofs.Sorting.{both_equal, number_same}
+use Rattle.tib_canon.proofs.Sorting.{number_same}
 use Rattle.tib_key_edges.specs.Ends.{key_at as pair_at}
 use Rattle.tib_intersect.specs.PairEdges.{IsPairEdge}
 use Rattle.tib_intersect.specs.PairGrammar.{IsPairGrammar, PairsMean}
@@ -51,6 +51,7 @@ use Rattle.tib_operations.proofs.PairsByText.{pairs_given}
 use Rattle.tib_operations.proofs.ReadSound.{IsSound}
 use Rattle.tib_lex.proofs.Members.{has_at}
 use Rattle.tib_grammar.specs.Series.{HasSameSeries, HasProductSeries}
+use Rattle.tib_lex.proofs.PairOrder.{both_equal}
 
 -- one text
 

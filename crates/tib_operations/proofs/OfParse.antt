@@ -42,7 +42,7 @@ use Rattle.tib_canon.proofs.ConstructionOnce.{construction_once}
 use Rattle.tib_canon.proofs.EdgesByText.{edge_with, key_with}
 use Rattle.tib_canon.proofs.KeySeries.{canonical_series}
 use Rattle.tib_canon.proofs.ReachedOnce.{edge_given, ends_stand}
-use Rattle.tib_canon.proofs.Sorting.{both_equal, number_same}
+use Rattle.tib_canon.proofs.Sorting.{number_same}
 use Rattle.tib_canon.proofs.TrimmedOnce.{Fit, fit_from}
 use Rattle.tib_operations.specs.Made.{HasReachedFrom}
 use Rattle.tib_operations.proofs.MadeParts.{IsEither, reached_either}
@@ -54,6 +54,7 @@ use Rattle.tib_operations.specs.Words.{ArePlainWords}
 use Rattle.tib_operations.proofs.ParseByText.{parse_given}
 use Rattle.tib_operations.proofs.WordsByText.{words_with, words_given, string_given}
 use Rattle.tib_operations.proofs.WordsRead.{IsSoundStringTransducer}
+use Rattle.tib_lex.proofs.PairOrder.{both_equal}
 
 same_key : {a b c d k l m n : ℕ} → a ≡ k → b ≡ l → c ≡ m → d ≡ n → ◌≡◌ {A = ℕ × ℕ × ℕ × ℕ} (a, b, c, d) (k, l, m, n)
 same_key w x y z = λ i. (w i, x i, y i, z i)

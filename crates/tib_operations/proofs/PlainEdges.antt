@@ -30,10 +30,11 @@ use Rattle.tib_key_edges.proofs.KeyOrders.{op_laws, order_begins}
 use Rattle.tib_apply.proofs.Reached.{key_total, same_forward_edge, same_backward_edge}
 use Rattle.tib_canon.proofs.ConstructionExists.{IsEdgeOver, IsPlainConstruction}
 use Rattle.tib_canon.proofs.ReachedOnce.{edge_given, ends_stand}
-use Rattle.tib_canon.proofs.Sorting.{both_equal, number_same}
+use Rattle.tib_canon.proofs.Sorting.{number_same}
 use Rattle.tib_operations.specs.Moves.{AreLabelsPlain, ArePlainMoves}
 use Rattle.tib_operations.specs.Forward.{forwarding}
 use Rattle.tib_operations.specs.Backward.{inverting}
+use Rattle.tib_lex.proofs.PairOrder.{both_equal}
 
 -- keys over which an order is
 

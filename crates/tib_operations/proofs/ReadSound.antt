@@ -16,6 +16,7 @@ use Rattle.tib_grammar.specs.StateName.{IsStateName, AreStateNames}
 use Rattle.tib_grammar.specs.declared.Rule.{Rule}
 use Rattle.tib_grammar_file.specs.GrammarText.{Means, SpellsRuleOf, GrammarText, first_text}
 use Rattle.tib_grammar_file.proofs.TextRead.{first_words, FirstIsWord, all_names}
+use Rattle.tib_grammar_file.proofs.OneGrammar.{first_is_name, firsts_are_names}
 
 get_below : (names : List (List ℕ)) (q : ℕ) (text : List ℕ) → slice_get names q ≡ Some text → q < length names
 get_below [] q text e = absurd (cc)
@@ -72,17 +73,6 @@ some_added : (text : List ℕ) (texts now : List (List ℕ)) → AddsAll [] (tex
 some_added text texts now a = omega (arith, first_adds text a.0 a.1, all_most a.0 texts now a.2)
 
 -- the names of left states are state names
-
-first_is_name : (scale : Scale) (names labels : List (List ℕ)) (words : List Word) (r : Rule ℕ) → SpellsRuleOf scale names labels words r → FirstIsWord words → IsStateName (first_text words)
-first_is_name scale names labels words r s f =
-    subst (λ (t : List ℕ). IsStateName t) (ap first_text s.words_are)
-    (record { is_name = subst (λ (ws : List Word). FirstIsWord ws) (sym s.words_are) f; no_stop = s.plain })
-
-firsts_are_names :
-    (scale : Scale) (names labels : List (List ℕ)) (rows : List (List Word)) (rules : List (Rule ℕ)) → Along (SpellsRuleOf scale names labels) rows rules → Each FirstIsWord rows → Each IsStateName (map first_text rows)
-firsts_are_names scale names labels [] rules a f = tt
-firsts_are_names scale names labels (w ∷ rows) [] a f = absurd a
-firsts_are_names scale names labels (w ∷ rows) (r ∷ rules) a f = (first_is_name scale names labels w r a.0 f.0, firsts_are_names scale names labels rows rules a.1 f.1)
 
 state_names : (scale : Scale) (labels : List (List ℕ)) (bytes : List ℕ) (g : GrammarOf) → GrammarText scale labels bytes g → AreStateNames g.names
 state_names scale labels bytes g t =

@@ -111,7 +111,7 @@ pub by_every : {A : Type 0} (xs : List A) (d : A) → xs ≡ map (λ i. get_or x
 by_every xs d = sym (take_all (length xs) xs (omega arith)) ∙ by_places xs d (length xs) (omega arith)
 
 -- a side whose states keep their numbers stays the same
-trees_stay : (f : ℕ → ℕ) (ts : Trees (Symbol ℕ ℕ)) → HolesAreLeaves ts → ((q : ℕ) → Has (holes ts) q → f q ≡ q) → relabel (symbol_map f) ts ≡ ts
+pub trees_stay : (f : ℕ → ℕ) (ts : Trees (Symbol ℕ ℕ)) → HolesAreLeaves ts → ((q : ℕ) → Has (holes ts) q → f q ≡ q) → relabel (symbol_map f) ts ≡ ts
 trees_stay f none l s = refl
 trees_stay f (tree (label g) kids rest) l s =
     ap (λ us. tree (label g) us (relabel (symbol_map f) rest)) (trees_stay f kids l.0 (λ q h. s q (has_left (holes kids) (holes rest) q h)))

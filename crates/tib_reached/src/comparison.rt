@@ -3,7 +3,8 @@
 ghost use Rattle.std.specs.Prelude.{◌≤◌, length, IfOk, IfErr};
 ghost use Rattle.tib_grammar_file.specs.Printed.{AreLabelled};
 ghost use Rattle.tib_expand.specs.Reached.{most_parts};
-ghost use Rattle.tib_compare.specs.Compared.{AreFree, IsCompared, IsSmall};
+ghost use Rattle.tib_grammar.specs.Run.{AreFree};
+ghost use Rattle.tib_compare.specs.Compared.{IsCompared, IsSmall};
 ghost use Rattle.tib_compare.specs.Faults.{IsCause, IsWithin};
 
 use crate::determinization::{determinize, determinize_together};

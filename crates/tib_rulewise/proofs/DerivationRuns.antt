@@ -19,9 +19,10 @@ use Rattle.tib_transducer.specs.declared.TransducerRule.{TransducerRule}
 use Rattle.tib_rulewise.specs.Placed.{placed_side, variables_from}
 use Rattle.tib_rulewise.specs.Derivations.{rule_text, read_from, derivation_rule, AreDerivationRules}
 use Rattle.tib_rulewise.specs.DerivationSeries.{spelled, IsDerivationCost, GivesDerivations, HaveOneCost, KeepsSeries}
-use Rattle.tib_rulewise.proofs.Placed.{along, side-holes, side-fill, bind_any, count-bound, length-variables, fill-over, upward, pick-all}
+use Rattle.tib_rulewise.proofs.Placed.{along, side-holes, side-fill, bind_any, length-variables, fill-over, upward, pick-all}
 use Rattle.tib_rulewise.proofs.RuleTexts.{text_names, one_label}
 use Rattle.tib_grammar.proofs.Sides.{holes_of-over}
+use Rattle.tib_transducer.proofs.Counting.{count-bound}
 
 states_along : (n : ℕ) (qs : List ℕ) → map (λ (x : Pair ℕ). x.state) (along read_from n qs) ≡ qs
 states_along n [] = refl

@@ -22,9 +22,10 @@ use Rattle.tib_rulewise.specs.Placed.{variables_from}
 use Rattle.tib_rulewise.specs.Inverse.{no_pair, place_of, variable_at, pair_for, inverse_rule, inverse_of}
 use Rattle.tib_rulewise.specs.Invertible.{IsInvertible, AreInvertible}
 use Rattle.tib_rulewise.proofs.Placed.{side-holes, side-fill, side-begins, along-variables, numbered, length-variables, bind_any, each_variable, no_label}
-use Rattle.tib_rulewise.proofs.Places.{place_below, at_place, place_at, place_number, all_stand}
+use Rattle.tib_rulewise.proofs.Places.{place_below, at_place, place_at}
 use Rattle.tib_rulewise.proofs.Reordered.{AreTurned}
 use Rattle.tib_rulewise.proofs.Mirrored.{IsMirrored, AreMirrored}
+use Rattle.tib_transducer.proofs.Counting.{place_number, all_stand}
 
 -- variables without labels bind any trees, as many as they are
 bind_plain : (xs : List Variable) (us : Trees ℕ) → ((x : Variable) → Has xs x → (f : ℕ) → x.label ≡ Some f → ⊥) → count us ≡ length xs → AreBound xs us

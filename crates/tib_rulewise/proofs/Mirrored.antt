@@ -13,8 +13,8 @@ use Rattle.tib_transducer.specs.declared.Pair.{Pair}
 use Rattle.tib_transducer.specs.declared.TransducerRule.{TransducerRule}
 use Rattle.tib_transducer.proofs.Itemizing.{one_more, one_run, count-outputs}
 use Rattle.tib_rulewise.specs.Inverse.{GivesInversely}
-use Rattle.tib_rulewise.proofs.Placed.{count-bound}
 use Rattle.tib_rulewise.proofs.Reordered.{AreTurned, reorder, one_of, outputs_one}
+use Rattle.tib_transducer.proofs.Counting.{count-bound}
 
 -- b reads what a outputs, and outputs what a reads
 pub record IsMirrored (a b : TransducerRule ℕ) : Type 0 where

@@ -114,13 +114,6 @@ bind_any n zero (tree f kids rest) e = absurd (omega arith)
 bind_any n (suc many) none e = absurd (omega arith)
 bind_any n (suc many) (tree f kids rest) e = (tt, bind_any (suc n) many rest (omega arith))
 
--- as many trees are bound as there are variables
-pub count-bound : (xs : List Variable) (args : Trees ℕ) → AreBound xs args → count args ≡ length xs
-count-bound [] none b = refl
-count-bound [] (tree f kids rest) b = absurd b
-count-bound (x ∷ xs) none b = absurd b
-count-bound (x ∷ xs) (tree f kids rest) b = ap suc (count-bound xs rest b.1)
-
 -- one label over holes is filled by the trees below it
 pub fill-over : {P : Type 0} (f : ℕ) (ps : List P) (ts : Trees ℕ) → count ts ≡ length ps → fill (only (over f ps)) ts ≡ tree f ts none
 fill-over {P} f ps ts e =

@@ -10,6 +10,7 @@ use Rattle.tib_transducer.specs.Range.{AreNumbered}
 use Rattle.tib_transducer.specs.declared.Variable.{Variable}
 use Rattle.tib_transducer.specs.declared.Pair.{Pair}
 use Rattle.tib_rulewise.specs.Inverse.{place_of}
+use Rattle.tib_transducer.proofs.Counting.{number_at, place_number}
 
 -- the place of a variable that a pair has is within, and has that variable
 pub place_below : (xs : List (Pair ℕ)) (v : ℕ) → Has (map (λ x. x.variable) xs) v → place_of xs v < length xs
@@ -39,21 +40,6 @@ place_at (x ∷ xs) (suc i) d b =
       | inl k ↦ absurd (d.0 (subst (Has vs) k.0 stands))
       | inr k ↦ rw k.1 (ap suc (place_at xs i d.1 (omega arith)))
     ]
-
--- the number of a variable is its place
-number_at : (xs : List Variable) (n i : ℕ) → AreNumbered n xs → i < length xs → (get_or xs i no_variable).number ≡ n + i
-number_at [] n i a b = absurd (omega arith)
-number_at (x ∷ xs) n zero a b = omega (arith, a.0)
-number_at (x ∷ xs) n (suc i) a b = omega (arith, number_at xs (suc n) i a.1 (omega arith))
-
--- the number of a variable of a left-hand side is its place
-pub place_number : (xs : List Variable) (i : ℕ) → AreNumbered 0 xs → i < length xs → (get_or xs i no_variable).number ≡ i
-place_number xs i a b = omega (arith, number_at xs 0 i a b)
-
--- where each variable is among some numbers, each place is
-pub all_stand : (xs : List Variable) (vars : List ℕ) → AreNumbered 0 xs → Each (λ x. Has vars x.number) xs → (i : ℕ) → i < length xs → Has vars i
-all_stand xs vars a h i b =
-    subst (Has vars) (place_number xs i a b) (each_has (λ x. Has vars x.number) xs (get_or xs i no_variable) h (has_at xs i no_variable b))
 
 -- the numbers of variables are below how many they are
 pub numbers_below : (xs : List Variable) (n : ℕ) → AreNumbered n xs → Each (λ x. x.number < n + length xs) xs

@@ -21,12 +21,9 @@ use Rattle.tib_rulewise.specs.Invertible.{IsInvertible, AreInvertible}
 use Rattle.tib_rulewise.proofs.Placed.{placed-only}
 use Rattle.tib_rulewise.proofs.Places.{place_at}
 use Rattle.tib_rulewise.proofs.Inverting.{turned, states_back, inverse_linear}
+use Rattle.tib_transducer.proofs.Counting.{numbered_front}
 
 -- variables that are numbered are those by place
-
-numbered_front : (n : ℕ) (xs ys : List Variable) → AreNumbered n (xs ++ ys) → AreNumbered n xs
-numbered_front n [] ys h = tt
-numbered_front n (x ∷ xs) ys h = (h.0, numbered_front (suc n) xs ys h.1)
 
 numbered_back : (n : ℕ) (xs ys : List Variable) → AreNumbered n (xs ++ ys) → AreNumbered (n + length xs) ys
 numbered_back n [] ys h = let e : n ≡ n + 0 = omega arith in subst (λ (m : ℕ). AreNumbered m ys) e h

@@ -10,7 +10,7 @@ use tib_grammar::{Item, Side};
 use tib_transducer::Variable;
 use tib_tree::{Label, ShapeError};
 
-/// How many holes are among some items.
+/// How many holes are among some items. Cost: one pass over them.
 pub fn count_holes<P>(items: &[Item<P>]) -> usize
     ensures { result ≡ length (holes_in items.now) }
 {
@@ -23,7 +23,8 @@ pub fn count_holes<P>(items: &[Item<P>]) -> usize
     count
 }
 
-/// The side with some items. Err only if they are 2^32 or more.
+/// The side with some items. Err only if they are 2^32 or more; the items are then gone. Cost: one
+/// pass over them.
 pub fn side_of<P: Drop>(items: Vec<Item<P>>) -> Result<Side<P>, AllocError>
     requires { IsOneTree (pairs_of items.items) }
     ensures { IfOk result (λ s. preorder_of s ≡ pairs_of items.items) }
@@ -39,7 +40,7 @@ pub fn side_of<P: Drop>(items: Vec<Item<P>>) -> Result<Side<P>, AllocError>
 }
 
 /// One label over the variables 0, 1 and so on, this many. Err only if memory is refused, or they
-/// are 2^32 - 1 or more.
+/// are 2^32 - 1 or more. Cost: in proportion to the count.
 pub fn over_variables(alloc: Global, label: Label, count: u32) -> Result<Side<Variable>, AllocError>
     ensures { IfOk result (λ s. s ≡ over_of label (variables_from 0 count)) }
 {

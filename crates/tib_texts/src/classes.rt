@@ -10,7 +10,7 @@ use tib_transducer::{Transducer, first_outside};
 
 /// Returns Ok where each rule of the transducer of a file, counted from 1, is linear and
 /// nondeleting, each where it is demanded; otherwise `Class`, which names the first rule that is
-/// not. It takes no memory.
+/// not. It takes no memory, and looks at each rule once.
 pub fn demand<S>(
     transducer: &Transducer<S>,
     file: u32,
@@ -30,7 +30,7 @@ pub fn demand<S>(
 
 /// Returns Ok where each rule of the transducer of a file, counted from 1, is linear, nondeleting,
 /// not extended and not labelled; otherwise `Class`, which names the first rule that is not. It
-/// takes no memory.
+/// takes no memory, and looks at each rule once.
 pub fn demand_plain<S>(transducer: &Transducer<S>, file: u32) -> Result<(), Status>
     ensures met { IfOk result (λ _. AllMeet plain transducer.now.rules) }
     ensures broken { IfErr result (IsClassFault (demanded_of file plain transducer.now.rules)) }
@@ -43,7 +43,7 @@ pub fn demand_plain<S>(transducer: &Transducer<S>, file: u32) -> Result<(), Stat
 
 /// Returns Ok where each rule of the transducer of a file, counted from 1, is linear, nondeleting,
 /// not labelled and strict, so that it has an inverse; otherwise `Class`, which names the first
-/// rule that is not. It takes no memory.
+/// rule that is not. It takes no memory, and looks at each rule once.
 pub fn demand_invertible<S>(transducer: &Transducer<S>, file: u32) -> Result<(), Status>
     ensures met { IfOk result (λ _. AllMeet inverse_demands transducer.now.rules) }
     ensures broken { IfErr result (IsClassFault (demanded_of file inverse_demands

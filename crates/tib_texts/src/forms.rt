@@ -19,8 +19,8 @@ use tib_normal::{Normal, NormalError, normalize};
 use tib_operations::Status;
 use tib_prune::trim_with_insides;
 
-// The laws of the product. A function whose semiring is shared among threads has them by a call of
-// this one.
+/// The laws of the product. It computes nothing: a function whose semiring is shared among threads
+/// has them by a call of this one.
 pub fn product_has_laws<S: Semiring>()
     ensures { ProductLaws S.LEVELLED S.WEIGHTED S.product }
 {}

@@ -5,6 +5,11 @@ use Rattle.std.proofs.lemmas.List.{get_or-take, length-take}
 use Rattle.tib_lex.specs.Lists.{Has, Each, Distinct, occurrences}
 use Rattle.tib_transducer.specs.Range.{AreNumbered}
 use Rattle.tib_transducer.specs.declared.Variable.{Variable}
+use Rattle.std.specs.Prelude.{◌++◌}
+use Rattle.tib_transducer.specs.Rules.{no_variable}
+use Rattle.tib_grammar.proofs.Members.{each_has, has_at}
+use Rattle.tib_tree.specs.Trees.{Trees, none, tree, count}
+use Rattle.tib_transducer.specs.Run.{AreBound}
 
 nat_eq_cases : (n m : ℕ) → ((n ≡ m) × (nat_eq n m ≡ true)) ⊎ ((n ≡ m → ⊥) × (nat_eq n m ≡ false))
 nat_eq_cases n m = grind (arith, nat_tests)
@@ -161,3 +166,29 @@ pub window_to :
 window_to P uses many h k inside =
     let below : k < many = omega (arith, length-take many uses) in
     subst P (sym (get_or-take many uses k 0 below)) (h k below)
+
+-- the number of a variable is its place
+pub number_at : (xs : List Variable) (n i : ℕ) → AreNumbered n xs → i < length xs → (get_or xs i no_variable).number ≡ n + i
+number_at [] n i a b = absurd (omega arith)
+number_at (x ∷ xs) n zero a b = omega (arith, a.0)
+number_at (x ∷ xs) n (suc i) a b = omega (arith, number_at xs (suc n) i a.1 (omega arith))
+
+-- the number of a variable of a left-hand side is its place
+pub place_number : (xs : List Variable) (i : ℕ) → AreNumbered 0 xs → i < length xs → (get_or xs i no_variable).number ≡ i
+place_number xs i a b = omega (arith, number_at xs 0 i a b)
+
+-- where each variable is among some numbers, each place is
+pub all_stand : (xs : List Variable) (vars : List ℕ) → AreNumbered 0 xs → Each (λ x. Has vars x.number) xs → (i : ℕ) → i < length xs → Has vars i
+all_stand xs vars a h i b =
+    subst (Has vars) (place_number xs i a b) (each_has (λ x. Has vars x.number) xs (get_or xs i no_variable) h (has_at xs i no_variable b))
+
+pub numbered_front : (n : ℕ) (xs ys : List Variable) → AreNumbered n (xs ++ ys) → AreNumbered n xs
+numbered_front n [] ys h = tt
+numbered_front n (x ∷ xs) ys h = (h.0, numbered_front (suc n) xs ys h.1)
+
+-- as many trees are bound as there are variables
+pub count-bound : (xs : List Variable) (args : Trees ℕ) → AreBound xs args → count args ≡ length xs
+count-bound [] none b = refl
+count-bound [] (tree f kids rest) b = absurd b
+count-bound (x ∷ xs) none b = absurd b
+count-bound (x ∷ xs) (tree f kids rest) b = ap suc (count-bound xs rest b.1)

@@ -6,6 +6,6 @@ pub mod Selecting
 pub mod Itemizing
 pub mod Moves
 pub mod NamedItems
-mod Counting
+pub mod Counting
 mod Labels
 mod Standing

@@ -33,6 +33,7 @@ use Rattle.tib_transducer_file.specs.ByText.{AskForOneText, AgreeOnLeft, AgreeOn
 use Rattle.tib_transducer_file.proofs.RulesHave.{file_has, each_line_has}
 use Rattle.tib_transducer_file.proofs.FaultsOnce.{text_read}
 use Rattle.tib_transducer_file.proofs.ShapesRead.{left_ends}
+use Rattle.tib_transducer.proofs.Counting.{numbered_front}
 
 -- no state's name occurs twice
 one_added : (before : List (List ℕ)) (text : List ℕ) (now : List (List ℕ)) → Adds before text now → AreDistinct before → AreDistinct now
@@ -89,10 +90,6 @@ place_once (x ∷ xs) (suc i) zero v d e f = absurd (d.0 (subst (Has xs) (sym (s
 place_once (x ∷ xs) (suc i) (suc j) v d e f = ap suc (place_once xs i j v d.1 e f)
 
 -- the variables of left sides of one shape have the same numbers
-
-numbered_front : (n : ℕ) (xs ys : List Variable) → AreNumbered n (xs ++ ys) → AreNumbered n xs
-numbered_front n [] ys h = tt
-numbered_front n (x ∷ xs) ys h = (h.0, numbered_front (suc n) xs ys h.1)
 
 numbered_back : (n : ℕ) (xs ys : List Variable) → AreNumbered n (xs ++ ys) → AreNumbered (n + length xs) ys
 numbered_back n [] ys h = let same : n ≡ n + 0 = omega arith in subst (λ (m : ℕ). AreNumbered m ys) same h

@@ -19,6 +19,7 @@ use Rattle.tib_transducer.specs.declared.TransducerRule.{TransducerRule}
 use Rattle.tib_transducer_file.specs.Printed.{rules_text, transducer_text}
 use Rattle.tib_transducer_file.specs.Labelled.{IsBelowOnLeft, IsBelowOnRight, HasLabelsBelow, AreLabelled}
 use Rattle.tib_transducer_file.specs.Within.{IsSymbolWithin, IsVariableWithin, IsPairWithin, IsRuleWithin}
+use Rattle.tib_lex.proofs.Members.{each_at}
 
 -- a left side needs its labels alone
 left_symbol : (names labels : List (List ℕ)) (s : Symbol ℕ Variable) → IsBelowOnLeft (length labels) s → IsSymbolWithin (IsVariableWithin names labels) (length labels) s
@@ -72,11 +73,6 @@ rule_within names labels rule r l b = record {
   left = left_within names labels (preorder_of rule.left) b.left;
   right = right_within names labels (preorder_of rule.right) b.right (subst (λ (qs : List ℕ). AllBelow (length names) qs) (sym (ap states (sym (one_tree rule.right)) ∙ states_are (only rule.right) l.1)) r.1);
 }
-
-each_at : {A : Type 0} (P : A → Type 0) (xs : List A) (n : ℕ) (d : A) → Each P xs → n < length xs → P (get_or xs n d)
-each_at P [] n d e h = absurd (omega arith)
-each_at P (x ∷ xs) zero d e h = e.0
-each_at P (x ∷ xs) (suc n) d e h = each_at P xs n d e.1 (omega arith)
 
 rules_within : (names labels : List (List ℕ)) (rules : List (TransducerRule ℕ)) → AreWithin (length names) rules → EndInHoles rules → AreLabelled (length labels) rules → All (IsRuleWithin names labels) rules
 rules_within names labels rules r l b k d h =

@@ -26,6 +26,8 @@ use Rattle.tib_trim.specs.FirstSeen.{states_of, IsEach}
 use Rattle.tib_trim.specs.Keeping.{AreClosed}
 use Rattle.tib_trim.specs.TrimmedFile.{HasRules}
 use Rattle.tib_trim.proofs.FirstSeen.{has_states}
+use Rattle.tib_inside.proofs.Assembling.{all_mapped}
+use Rattle.tib_prune.proofs.Untrimmed.{trees_stay}
 
 -- each state has its place as its number, from which it is found again
 pub record IsNumbered (states numbers : List ℕ) (q : ℕ) : Type 0 where
@@ -107,10 +109,6 @@ kept_state_names names states s b d = record { each = each_name states b; distin
       distinct_names states (λ i h. b (suc i) (omega arith)) d.1,
     )
 
-all_mapped : (n : ℕ) (f : ℕ → ℕ) (qs : List ℕ) → ((q : ℕ) → Has qs q → f q < n) → AllBelow n (map f qs)
-all_mapped n f [] h = tt
-all_mapped n f (q ∷ qs) h = (h q (inl refl), all_mapped n f qs (λ p k. h p (inr k)))
-
 -- rules that are renamed and renamed back are as they were
 all_back : (f g : ℕ → ℕ) (rules : List (Rule ℕ)) → ((n : ℕ) → n < length rules → named_rule g (named_rule f (rule_at rules n)) ≡ rule_at rules n) → map (named_rule g) (map (named_rule f) rules) ≡ rules
 all_back f g [] h = refl
@@ -148,17 +146,6 @@ module _ (rules : List (Rule ℕ)) (numbers : List ℕ) (are : AreNumbersOf (sta
         rule_back (number_in numbers) (λ i. get_or (states_of rules) i 0) (rule_at rules n) (left_state n h).back (λ q s. (right_state n q h s).back) (leaves n h));
   }
 
--- a side whose states keep their numbers stays the same
-trees_stay : (f : ℕ → ℕ) (ts : Trees (Symbol ℕ ℕ)) → HolesAreLeaves ts → ((q : ℕ) → Has (holes ts) q → f q ≡ q) → relabel (symbol_map f) ts ≡ ts
-trees_stay f none l s = refl
-trees_stay f (tree (label g) kids rest) l s =
-    ap (λ us. tree (label g) us (relabel (symbol_map f) rest)) (trees_stay f kids l.0 (λ q h. s q (has_left (holes kids) (holes rest) q h)))
-    ∙ ap (tree (label g) kids) (trees_stay f rest l.1 (λ q h. s q (has_right (holes kids) (holes rest) q h)))
-trees_stay f (tree (hole p) none rest) l s =
-    ap (λ (r : ℕ). tree (hole r) none (relabel (symbol_map f) rest)) (s p (inl refl))
-    ∙ ap (tree (hole p) none) (trees_stay f rest l (λ q h. s q (inr h)))
-trees_stay f (tree (hole p) (tree x kids more) rest) l s = absurd l
-
 pub rule_stays : (f : ℕ → ℕ) (r : Rule ℕ) → f r.left ≡ r.left → HolesAreLeaves (only r.right) → ((q : ℕ) → Has (holes_of r.right) q → f q ≡ q) → named_rule f r ≡ r
 rule_stays f r left l same =
     ap (λ (p : ℕ). record { left = p; right = side_map f r.right; cost = r.cost }) left
@@ -192,10 +179,6 @@ in_place names rules states new each e range leaves names_are rules_are = record
   where
     own : (q : ℕ) → q < length names → get_or (states_of rules) q 0 ≡ q
     own q h = ap (λ xs. get_or xs q 0) (sym e) ∙ each.own q h
-
--- a list that is filled with as many is what fills it
-pub refilled : {A : Type 0} (xs ws : List A) (n : ℕ) → n ≡ length xs → length ws ≡ length xs → take n (ws ++ drop (length ws) xs) ≡ ws
-refilled xs ws n e h = take_at ws (drop (length ws) xs) n (omega (arith, e, h))
 
 no_number : (n i : ℕ) → ◌≡◌ {A = ℕ} (get_or (replicate n 0) i 0) 0
 no_number zero i = refl

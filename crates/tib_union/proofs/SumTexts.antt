@@ -16,8 +16,9 @@ use Rattle.tib_grammar.specs.declared.Rule.{Rule}
 use Rattle.tib_grammar_file.specs.ByText.{HaveOneShape, AgreeInSymbol, AreOneRule, AgreeByText}
 use Rattle.tib_grammar_file.specs.Printable.{HavePlainLabels, IsPlainIf, IsPrintable, ArePrintable}
 use Rattle.tib_canon.specs.Canonical.{names_of}
-use Rattle.tib_canon.proofs.Started.{relabel_ends}
+use Rattle.tib_canon.proofs.Started.{relabel_ends, plain_on}
 use Rattle.tib_union.specs.Sum.{chain_to, raised, sum_rules, sum_grammar}
+use Rattle.tib_lex.proofs.Alongs.{along_append}
 
 -- what holds of chain rules, of rules of both and so of these raised, holds of each rule of the sum
 module _ (P : Rule ℕ → Type 0) (chains : (q : ℕ) → P (chain_to q)) (raises : (by : ℕ) (r : Rule ℕ) → P r → P (named_rule (λ q. by + q) r)) where
@@ -41,11 +42,6 @@ module _ (P : Rule ℕ → Type 0) (chains : (q : ℕ) → P (chain_to q)) (rais
 pub sum_leaves : (n : ℕ) (one two : List (Rule ℕ)) → SidesEndInHoles one → SidesEndInHoles two → SidesEndInHoles (sum_rules n one two)
 sum_leaves n one two h k = of_sum (λ r. HolesAreLeaves (only r.right)) (λ q. tt) (λ by r e. relabel_ends (λ q. by + q) (only r.right) e) n one two h k
 
-plain_on : (labels : List (List ℕ)) (f : ℕ → ℕ) (ts : Trees (Symbol ℕ ℕ)) → HavePlainLabels labels ts → HavePlainLabels labels (relabel (symbol_map f) ts)
-plain_on labels f none h = tt
-plain_on labels f (tree (label g) kids rest) h = (h.0, h.1, plain_on labels f kids h.2, plain_on labels f rest h.3)
-plain_on labels f (tree (hole q) kids rest) h = (plain_on labels f kids h.0, plain_on labels f rest h.1)
-
 plain_one : (weighted : Bool) → IsPlainIf weighted 0
 plain_one true = omega arith
 plain_one false = refl
@@ -55,12 +51,6 @@ pub sum_printable : (scale : Scale) (labels : List (List ℕ)) (n : ℕ) (one tw
 sum_printable scale labels n one two h k =
     of_sum (IsPrintable scale labels) (λ q. record { right = (tt, tt); cost = plain_one (is_weighted scale) })
     (λ by r p. record { right = plain_on labels (λ q. by + q) (only r.right) p.right; cost = p.cost }) n one two h k
-
-along_both : {A B : Type 0} (R : A → B → Type 0) (xs us : List A) (ys vs : List B) → Along R xs ys → Along R us vs → Along R (xs ++ us) (ys ++ vs)
-along_both R [] us [] vs h k = k
-along_both R [] us (y ∷ ys) vs h k = absurd h
-along_both R (x ∷ xs) us [] vs h k = absurd h
-along_both R (x ∷ xs) us (y ∷ ys) vs h k = (h.0, along_both R xs us ys vs h.1 k)
 
 module _ (labels others : List (List ℕ)) where
   shape_on : (f : ℕ → ℕ) (ts us : Trees (Symbol ℕ ℕ)) → HaveOneShape (AgreeInSymbol labels others) ts us → HaveOneShape (AgreeInSymbol labels others) (relabel (symbol_map f) ts) (relabel (symbol_map f) us)
@@ -90,7 +80,7 @@ module _ (labels others : List (List ℕ)) where
     chain_agrees 1,
     (
       chain_agrees (1 + n),
-      along_both (AreOneRule labels others) (raised 1 one) (raised (1 + n) two) (raised 1 xs) (raised (1 + n) ys) (raised_agree 1 one xs h) (raised_agree (1 + n) two ys k),
+      along_append (AreOneRule labels others) (raised 1 one) (raised (1 + n) two) (raised 1 xs) (raised (1 + n) ys) (raised_agree 1 one xs h) (raised_agree (1 + n) two ys k),
     ),
   )
 

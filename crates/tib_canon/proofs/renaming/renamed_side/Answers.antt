@@ -5,9 +5,9 @@ use Rattle.tib_grammar.specs.Renaming.{number_in}
 use Rattle.tib_grammar.specs.Sides.{side_map}
 use Rattle.tib_transducer.specs.NamedPairs.{named_pair}
 use Rattle.tib_transducer.proofs.NamedItems.{one_tree, preorder-named}
-use Rattle.tib_canon.proofs.TransducerTelling.{side_same}
 use Rattle.tib_canon.proofs.Renamed.{states_are}
 use Rattle.tib_canon.proofs.renaming.renamed_side.Goals as goal
+use Rattle.tib_grammar.proofs.Sides.{side_same}
 
 pub renamed_items-requires : goal.renamed_items-requires
 renamed_items-requires c = states_are (length c.args.numbers.now) c.items.result.now c.args.side.now c.items.ensures.items c.requires

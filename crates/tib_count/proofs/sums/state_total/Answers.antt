@@ -5,11 +5,12 @@ use Rattle.tib_grammar.specs.Run.{no_rule, rule_at}
 use Rattle.tib_grammar.specs.Sides.{holes_of}
 use Rattle.tib_grammar.specs.declared.Rule.{Rule}
 use Rattle.tib_count.specs.Counts.{counted}
-use Rattle.tib_count.specs.Links.{IsNext}
+use Rattle.tib_inside.specs.Links.{IsNext}
 use Rattle.tib_count.specs.Products.{product_over, sum_over, rule_number}
 use Rattle.tib_count.specs.Sums.{lefts}
-use Rattle.tib_count.proofs.Summing.{lefts_at, lefts_long, sum_first, sum_more}
+use Rattle.tib_count.proofs.Summing.{sum_first, sum_more}
 use Rattle.tib_count.proofs.sums.state_total.Goals as goal
+use Rattle.tib_inside.proofs.Following.{lefts_at, lefts_long}
 
 pub loop-n-init : goal.loop-n-init
 loop-n-init c =

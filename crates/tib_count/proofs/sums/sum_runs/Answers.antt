@@ -7,8 +7,9 @@ use Rattle.tib_count.specs.Sums.{HasTotal}
 use Rattle.tib_count.specs.declared.count.Count.{Count}
 use Rattle.tib_count.specs.declared.count.Count.TheVariants.{Endless}
 use Rattle.tib_grammar.specs.Range.{AreBelow}
-use Rattle.tib_count.proofs.Summing.{lefts_below, sums_begin, known, summed_more, start_counted}
+use Rattle.tib_count.proofs.Summing.{sums_begin, known, summed_more, start_counted}
 use Rattle.tib_count.proofs.sums.sum_runs.Goals as goal
+use Rattle.tib_inside.proofs.Following.{lefts_below}
 
 pub new-requires : goal.new-requires
 new-requires c = record { below = subst (λ (xs : List ℕ). AreBelow c.args.count xs) (sym (c.deref.ensures.value ∙ c.in_ok-lefts.ensures)) (lefts_below c.args.rules.now c.args.count c.requires.range) }

@@ -3,8 +3,8 @@ use Rattle.tib_tree.specs.Trees.{preorder_of}
 use Rattle.tib_grammar.specs.Items.{pairs_of}
 use Rattle.tib_grammar.specs.Sides.{Lone}
 use Rattle.tib_grammar.proofs.Holes.{side_same}
-use Rattle.tib_determinize.proofs.StartedRules.{no_fault}
 use Rattle.tib_determinize.proofs.started.lone.Goals as goal
+use Rattle.tib_grammar.proofs.Sides.{no_fault}
 
 pub unreachable-requires : goal.unreachable-requires
 unreachable-requires c =

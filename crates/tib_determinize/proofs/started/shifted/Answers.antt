@@ -2,8 +2,9 @@ use Rattle.std.proofs.Common.{◌≡◌, ap, ◌∙◌, suc, map, length}
 use Rattle.std.proofs.lemmas.List.{length-map}
 use Rattle.tib_grammar.specs.GrammarOf.{named_rule}
 use Rattle.tib_grammar.specs.Renaming.{number_in}
-use Rattle.tib_determinize.proofs.StartedRules.{named_next, refilled}
+use Rattle.tib_determinize.proofs.StartedRules.{named_next}
 use Rattle.tib_determinize.proofs.started.shifted.Goals as goal
+use Rattle.tib_lex.proofs.Lists.{refilled}
 
 pub returns : goal.returns
 returns c =

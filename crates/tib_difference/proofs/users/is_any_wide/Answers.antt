@@ -5,8 +5,9 @@ use Rattle.tib_grammar.specs.Run.{no_rule, rule_at}
 use Rattle.tib_grammar.specs.declared.Rule.{Rule}
 use Rattle.tib_grammar.proofs.Sides.{length-holes}
 use Rattle.tib_difference.specs.Using.{IsUser}
-use Rattle.tib_difference.proofs.Tried.{each_at, narrow_more, narrow_all}
+use Rattle.tib_difference.proofs.Tried.{narrow_more, narrow_all}
 use Rattle.tib_difference.proofs.users.is_any_wide.Goals as goal
+use Rattle.tib_lex.proofs.Members.{each_at}
 
 pub loop-number-preserved : goal.loop-number-preserved
 loop-number-preserved c =

@@ -2,7 +2,6 @@ use Rattle.std.proofs.Common.{max, inl}
 use Rattle.std.proofs.lemmas.Result.{IfOk-weaker, IfErr-weaker}
 use Rattle.tib_expand.specs.Reached.{IsBeyond}
 use Rattle.tib_determinize.specs.Determinization.{determinization}
-use Rattle.tib_count.specs.Laws.{AreFree}
 use Rattle.tib_count.specs.declared.count.Count.TheVariants.{Endless}
 use Rattle.tib_operations.specs.Count.{count_makes}
 use Rattle.tib_operations.specs.Made.{normal_form}
@@ -10,6 +9,7 @@ use Rattle.tib_operations.proofs.MadeParts.{made_weaker}
 use Rattle.tib_operations.proofs.OfForms.{are_free}
 use Rattle.tib_hunted_texts.proofs.Counting.{trees_of_form, endless_within, reached_within, reached_more, refused_memory}
 use Rattle.tib_hunted_texts.proofs.count.count_of.Goals as goal
+use Rattle.tib_grammar.specs.Run.{AreFree}
 
 pub is_endless-requires : goal.is_endless-requires
 is_endless-requires g c = c.forms_have_runs.ensures.form c.args.grammar.now c.in-Ok.form c.is_sound.ensures.range c.is_sound.ensures.leaves c.in-Ok.ensures.form

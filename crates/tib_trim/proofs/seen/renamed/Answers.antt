@@ -2,8 +2,8 @@ use Rattle.std.proofs.Common.{ap, ◌∙◌, map, length}
 use Rattle.std.proofs.lemmas.List.{length-map}
 use Rattle.tib_grammar.specs.GrammarOf.{named_rule}
 use Rattle.tib_grammar.specs.Renaming.{number_in}
-use Rattle.tib_trim.proofs.Numbered.{refilled}
 use Rattle.tib_trim.proofs.seen.renamed.Goals as goal
+use Rattle.tib_lex.proofs.Lists.{refilled}
 
 pub returns : goal.returns
 returns c =

@@ -1,8 +1,8 @@
 use Rattle.std.proofs.Common.{sym, subst, List, ℕ}
 use Rattle.tib_grammar.specs.declared.Rule.{Rule}
 use Rattle.tib_trim.specs.TrimmedFile.{HaveCosts}
-use Rattle.tib_trim.proofs.Numbered.{refilled}
 use Rattle.tib_trim.proofs.trimming.with_costs.Goals as goal
+use Rattle.tib_lex.proofs.Lists.{refilled}
 
 pub returns : goal.returns
 returns c =

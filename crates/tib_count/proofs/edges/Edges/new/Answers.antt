@@ -2,8 +2,9 @@ use Rattle.std.proofs.Common.{arith, ap, ◌≤◌, length, vec_len}
 use Rattle.std.proofs.lemmas.List.{get_or_read, length-append}
 use Rattle.tib_grammar.specs.Run.{no_rule}
 use Rattle.tib_grammar.specs.Sides.{holes_of}
-use Rattle.tib_count.proofs.EdgesOf.{edges_step, filled}
+use Rattle.tib_count.proofs.EdgesOf.{edges_step}
 use Rattle.tib_count.proofs.edges.Edges.new.Goals as goal
+use Rattle.tib_inside.proofs.Occurring.{filled}
 
 pub loop-rule-preserved : goal.loop-rule-preserved
 loop-rule-preserved c =

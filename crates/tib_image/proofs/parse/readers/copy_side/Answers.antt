@@ -1,8 +1,8 @@
 use Rattle.std.proofs.Common.{◌∙◌, ap}
 use Rattle.std.proofs.lemmas.List.{take_all}
 use Rattle.tib_grammar.specs.Items.{pairs_of}
-use Rattle.tib_image.proofs.Copying.{side_same}
 use Rattle.tib_image.proofs.parse.readers.copy_side.Goals as goal
+use Rattle.tib_grammar.proofs.Sides.{side_same}
 
 pub returns-in-Ok : goal.returns-in-Ok
 returns-in-Ok c =
