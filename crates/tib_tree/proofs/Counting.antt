@@ -22,9 +22,9 @@ use Rattle.tib_tree.specs.TreesText.{HasTrees, IsSmall, IsGood, LineHolds}
 use Rattle.tib_tree.proofs.FileRead.{SoFar, starts as file_starts, adds, ended as file_ended, failed as file_failed}
 use Rattle.tib_tree.proofs.TreesText.{line_holds, texts_exact, faults_exact}
 use Rattle.tib_tree.specs.OneTree.{IsTheText, IsBlank, HasTree, IsFirstTree, IsSecondTree, IsOneTreeFault, ReadsOneTree}
-use Rattle.tib_tree.specs.Found.{with_tree, Counts, CountsLine}
-use Rattle.tib_tree.specs.declared.found.Found.{Found}
-use Rattle.tib_tree.specs.declared.found.Found.TheVariants as found
+use Rattle.tib_tree.specs.TreesRead.{with_tree, Counts, CountsLine}
+use Rattle.tib_tree.specs.declared.trees_read.TreesRead.{TreesRead}
+use Rattle.tib_tree.specs.declared.trees_read.TreesRead.TheVariants as found
 
 -- what a line has, by what is read from it
 blank_read : (line : List ℕ) → tree_line line ≡ Ok None → IsBlank line
@@ -51,19 +51,19 @@ module _ (n m : ℕ) (line : List ℕ) (left more : List (List ℕ)) (is : left 
   first_here e tree = subst (λ (ls : List (List ℕ)). IsFirstTree n ls m) (sym is) (inr (tree, e))
 
 -- the trees so far, by what is kept of them
-abbrev pub Keeps : Found → List (Tree ℕ) → Type 0
+abbrev pub Keeps : TreesRead → List (Tree ℕ) → Type 0
 Keeps found.Nothing ts = ts ≡ []
 Keeps (found.One t) ts = ts ≡ t ∷ []
 Keeps (found.Second m) ts = Unit {0}
 
 -- where the second tree of the file is, by the trees of the lines that are left
-abbrev pub Leads : Found → ℕ → List (List ℕ) → List ℕ → Type 0
+abbrev pub Leads : TreesRead → ℕ → List (List ℕ) → List ℕ → Type 0
 Leads found.Nothing n left bytes = (m : ℕ) → IsSecondTree n left m → IsSecondTree 1 (lines_of bytes) m
 Leads (found.One t) n left bytes = (m : ℕ) → IsFirstTree n left m → IsSecondTree 1 (lines_of bytes) m
 Leads (found.Second m) n left bytes = IsSecondTree 1 (lines_of bytes) m
 
 -- Lines were read up to a place, where the line with this number begins.
-pub record IsUnderway (old labels : List (List ℕ)) (now : Found) (n at : ℕ) (bytes : List ℕ) : Type 0 where
+pub record IsUnderway (old labels : List (List ℕ)) (now : TreesRead) (n at : ℕ) (bytes : List ℕ) : Type 0 where
   pub trees : List (Tree ℕ)
   pub so_far : SoFar old labels trees n (drop at bytes) bytes
   pub keeps : Keeps now trees
@@ -73,40 +73,40 @@ pub record IsUnderway (old labels : List (List ℕ)) (now : Found) (n at : ℕ) 
 pub starts : (labels : List (List ℕ)) (bytes : List ℕ) → IsUnderway labels labels found.Nothing 1 0 bytes
 starts labels bytes = record { trees = []; so_far = file_starts labels bytes; keeps = refl; leads = λ m h. h }
 
-blank_leads : (now : Found) (n : ℕ) (line : List ℕ) (left more : List (List ℕ)) (bytes : List ℕ) → left ≡ line ∷ more → IsBlank line → Leads now n left bytes → Leads now (n + 1) more bytes
+blank_leads : (now : TreesRead) (n : ℕ) (line : List ℕ) (left more : List (List ℕ)) (bytes : List ℕ) → left ≡ line ∷ more → IsBlank line → Leads now n left bytes → Leads now (n + 1) more bytes
 blank_leads found.Nothing n line left more bytes is blank lead = λ m h. lead m (skip_second n m line left more is blank h)
 blank_leads (found.One t) n line left more bytes is blank lead = λ m h. lead m (skip_first n m line left more is blank h)
 blank_leads (found.Second k) n line left more bytes is blank lead = lead
 
 tree_leads :
-    (now : Found) (n : ℕ) (t : Tree ℕ) (line : List ℕ) (left more : List (List ℕ)) (bytes : List ℕ) → left ≡ line ∷ more → HasTree line → Leads now n left bytes →
+    (now : TreesRead) (n : ℕ) (t : Tree ℕ) (line : List ℕ) (left more : List (List ℕ)) (bytes : List ℕ) → left ≡ line ∷ more → HasTree line → Leads now n left bytes →
     Leads (with_tree n t now) (n + 1) more bytes
 tree_leads found.Nothing n t line left more bytes is tree lead = λ m h. lead m (behind_first n m line left more is tree h)
 tree_leads (found.One s) n t line left more bytes is tree lead = lead n (first_here n n line left more is refl tree)
 tree_leads (found.Second k) n t line left more bytes is tree lead = lead
 
-tree_kept : (now : Found) (n : ℕ) (t : Tree ℕ) (ts : List (Tree ℕ)) → Keeps now ts → Keeps (with_tree n t now) (ts ++ t ∷ [])
+tree_kept : (now : TreesRead) (n : ℕ) (t : Tree ℕ) (ts : List (Tree ℕ)) → Keeps now ts → Keeps (with_tree n t now) (ts ++ t ∷ [])
 tree_kept found.Nothing n t ts e = ap (λ (us : List (Tree ℕ)). us ++ t ∷ []) e
 tree_kept (found.One s) n t ts e = tt
 tree_kept (found.Second k) n t ts e = tt
 
 -- one more line
 pub step :
-    (old a b : List (List ℕ)) (before now : Found) (n at : ℕ) (line : Line) (bytes : List ℕ) → IsNextLine bytes n at line → Grows a b →
+    (old a b : List (List ℕ)) (before now : TreesRead) (n at : ℕ) (line : Line) (bytes : List ℕ) → IsNextLine bytes n at line → Grows a b →
     Counts b n before now (tree_line (slice_range bytes line.start line.end)) → AddsAll a (texts_in (tree_line (slice_range bytes line.start line.end))) b → IsUnderway old a before n at bytes →
     IsUnderway old b now (n + 1) line.next bytes
 step old a b before now n at line bytes is grows (inl (none, same)) more u = record {
   trees = u.trees;
   so_far = adds old a b u.trees u.trees n at line bytes is grows (inl (none, refl)) more u.so_far;
-  keeps = subst (λ (f : Found). Keeps f u.trees) (sym same) u.keeps;
-  leads = subst (λ (f : Found). Leads f (n + 1) (lines_of (drop line.next bytes)) bytes) (sym same)
+  keeps = subst (λ (f : TreesRead). Keeps f u.trees) (sym same) u.keeps;
+  leads = subst (λ (f : TreesRead). Leads f (n + 1) (lines_of (drop line.next bytes)) bytes) (sym same)
       (blank_leads before n (slice_range bytes line.start line.end) (lines_of (drop at bytes)) (lines_of (drop line.next bytes)) bytes is.lines (blank_read (slice_range bytes line.start line.end) none) u.leads);
 }
 step old a b before now n at line bytes is grows (inr (t, nodes, some, are, same)) more u = record {
   trees = u.trees ++ t ∷ [];
   so_far = adds old a b u.trees (u.trees ++ t ∷ []) n at line bytes is grows (inr (t, nodes, some, are, refl)) more u.so_far;
-  keeps = subst (λ (f : Found). Keeps f (u.trees ++ t ∷ [])) (sym same) (tree_kept before n t u.trees u.keeps);
-  leads = subst (λ (f : Found). Leads f (n + 1) (lines_of (drop line.next bytes)) bytes) (sym same)
+  keeps = subst (λ (f : TreesRead). Keeps f (u.trees ++ t ∷ [])) (sym same) (tree_kept before n t u.trees u.keeps);
+  leads = subst (λ (f : TreesRead). Leads f (n + 1) (lines_of (drop line.next bytes)) bytes) (sym same)
       (tree_leads before n t (slice_range bytes line.start line.end) (lines_of (drop at bytes)) (lines_of (drop line.next bytes)) bytes is.lines (tree_read (slice_range bytes line.start line.end) nodes some) u.leads);
 }
 
@@ -132,27 +132,27 @@ all_blank labels (line ∷ lines) (inl (blank, h)) = (blank, all_blank labels li
 all_blank labels (line ∷ lines) (inr (t, rest, e, is, h)) = absurd (cc e)
 
 -- what is returned at the end
-abbrev pub IsAnswer : List (List ℕ) → List ℕ → Found → Type 0
+abbrev pub IsAnswer : List (List ℕ) → List ℕ → TreesRead → Type 0
 IsAnswer labels bytes found.Nothing = IsOneTreeFault bytes (record { line = 1; kind = BadTree })
 IsAnswer labels bytes (found.One t) = IsTheText labels bytes t
 IsAnswer labels bytes (found.Second m) = IsOneTreeFault bytes (record { line = m; kind = BadTree })
 
 answers :
-    (labels : List (List ℕ)) (bytes : List ℕ) (now : Found) (ts : List (Tree ℕ)) (left : List (List ℕ)) (n : ℕ) → Each IsGood (lines_of bytes) → HasTrees labels (lines_of bytes) ts × Each IsSmall ts →
+    (labels : List (List ℕ)) (bytes : List ℕ) (now : TreesRead) (ts : List (Tree ℕ)) (left : List (List ℕ)) (n : ℕ) → Each IsGood (lines_of bytes) → HasTrees labels (lines_of bytes) ts × Each IsSmall ts →
     Keeps now ts → Leads now n left bytes → IsAnswer labels bytes now
 answers labels bytes found.Nothing ts left n good has e lead =
     inr (record { good = good; kind = refl; line = inl (all_blank labels (lines_of bytes) (subst (λ (us : List (Tree ℕ)). HasTrees labels (lines_of bytes) us) e has.0), refl) })
 answers labels bytes (found.One t) ts left n good has e lead = subst (λ (us : List (Tree ℕ)). HasTrees labels (lines_of bytes) us × Each IsSmall us) e has
 answers labels bytes (found.Second m) ts left n good has e lead = inr (record { good = good; kind = refl; line = inr lead })
 
-pub ended : (old labels : List (List ℕ)) (now : Found) (n at : ℕ) (bytes : List ℕ) → at ≡ length bytes → IsUnderway old labels now n at bytes → IsAnswer labels bytes now
+pub ended : (old labels : List (List ℕ)) (now : TreesRead) (n at : ℕ) (bytes : List ℕ) → at ≡ length bytes → IsUnderway old labels now n at bytes → IsAnswer labels bytes now
 ended old labels now n at bytes end u =
     let r = file_ended old labels u.trees n at bytes end u.so_far in
     answers labels bytes now u.trees (lines_of (drop at bytes)) n (file_good bytes r.0 r.1) ((texts_exact labels bytes u.trees).0 r) u.keeps u.leads
 
 -- a line with a fault
 line_failed :
-    (labels : List (List ℕ)) (n : ℕ) (before now : Found) (ts : List (Tree ℕ)) (error : LineError) (wanted : Result (Option (List Item)) FaultKind) → CountsLine labels n before now (Err error) wanted →
+    (labels : List (List ℕ)) (n : ℕ) (before now : TreesRead) (ts : List (Tree ℕ)) (error : LineError) (wanted : Result (Option (List Item)) FaultKind) → CountsLine labels n before now (Err error) wanted →
     AddsLine labels ts ts (Err error) wanted
 line_failed labels n before now ts (line_errors.Fault kind) wanted h = h
 line_failed labels n before now ts line_errors.OutOfMemory wanted h = tt
@@ -162,7 +162,7 @@ file_told labels bytes (errors.Fault fault) e = inl ((faults_exact bytes fault).
 file_told labels bytes errors.OutOfMemory e = tt
 
 pub failed :
-    (old a b : List (List ℕ)) (before now : Found) (n at : ℕ) (line : Line) (bytes : List ℕ) (error : LineError) (r : ReadError) → IsNextLine bytes n at line → r ≡ file_error_of line.number error →
+    (old a b : List (List ℕ)) (before now : TreesRead) (n at : ℕ) (line : Line) (bytes : List ℕ) (error : LineError) (r : ReadError) → IsNextLine bytes n at line → r ≡ file_error_of line.number error →
     CountsLine b n before now (Err error) (tree_line (slice_range bytes line.start line.end)) → IsUnderway old a before n at bytes → ReadsOneTree b bytes (Err r)
 failed old a b before now n at line bytes error r is e h u =
     file_told b bytes r

@@ -25,4 +25,4 @@ pub mod Order
 -- The definitions of files of one tree.
 pub mod OneTree
 pub mod OneTreeLaws
-pub mod Found
+pub mod TreesRead

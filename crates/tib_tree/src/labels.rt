@@ -1,5 +1,5 @@
 // The table of labels.
-ghost use Rattle.std.specs.Prelude.{◌≡◌, ℕ, ◌+◌, ◌-◌, ◌^◌, ◌<◌, ◌≤◌, List, [], ◌∷◌, ◌++◌, length, IfOk, OnOk, OnErr, slice_get, Some, Contains, IfSome, None};
+ghost use Rattle.std.specs.Prelude.{◌≡◌, ℕ, ◌+◌, ◌-◌, ◌^◌, ◌<◌, ◌≤◌, List, [], ◌∷◌, ◌++◌, length, IfOk, OnOk, OnErr, slice_get, Some, Contains, IfSome, None, map};
 ghost use Rattle.tib_lex.specs.Lines.{HasNoFeed};
 ghost use Rattle.tib_lex.specs.Lists.{Each};
 ghost use Rattle.tib_tree.specs.Grows.{Grows, Adds, AreDistinct};
@@ -7,6 +7,7 @@ ghost use Rattle.tib_tree.specs.Recent.{IsKey};
 
 use crate::recent::{Recent, key_of};
 use crate::text_set::TextSet;
+use indexmap::IndexSet;
 use std::alloc::{AllocError, Global};
 use std::marker::Model;
 
@@ -101,5 +102,15 @@ impl Labels {
         ensures { slice_get self.now label ≡ Some result.now }
     {
         self.texts.text(label)
+    }
+
+    /// The texts as a set in their order, each at its number, for a table that is made from this
+    /// one. Takes no memory.
+    pub fn into_texts(self) -> IndexSet<Vec<u8>>
+        ensures texts { map (λ text. text.items) result.keys ≡ self }
+        ensures few { length result.keys < 2 ^ 32 }
+    {
+        let Labels { texts, .. } = self;
+        texts.into_texts()
     }
 }

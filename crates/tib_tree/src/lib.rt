@@ -7,7 +7,6 @@
 
 mod comparing;
 mod file;
-mod found;
 mod labels;
 mod laws;
 mod one_tree;
@@ -19,6 +18,7 @@ mod recent;
 mod shape;
 mod text_set;
 mod trees;
+mod trees_read;
 
 pub use comparing::compare;
 pub use file::read_trees;

@@ -4,10 +4,10 @@ ghost use Rattle.tib_lex.specs.Limits.{most_bytes};
 ghost use Rattle.tib_lex.specs.Lines.{HasNoFeed};
 ghost use Rattle.tib_tree.specs.Grows.{Grows, AddsAll};
 ghost use Rattle.tib_tree.specs.Lines.{tree_line, texts_in};
-ghost use Rattle.tib_tree.specs.Found.{CountsLine};
+ghost use Rattle.tib_tree.specs.TreesRead.{CountsLine};
 ghost use Rattle.tib_tree.specs.OneTree.{ReadsOneTree};
 
-use crate::found::Found;
+use crate::trees_read::TreesRead;
 use crate::{Labels, LineReader, Tree};
 use std::alloc::Global;
 use tib_lex::{FaultKind, FileFault, LineError, ReadError, file_error, line_bytes, next_line};
@@ -19,7 +19,7 @@ fn read_line(
     line: &[u8],
     number: u32,
     labels: &mut Labels,
-    found: &mut Found,
+    found: &mut TreesRead,
 ) -> Result<(), LineError>
     requires short { length line.now ≤ most_bytes }
     requires plain { HasNoFeed line.now }
@@ -54,7 +54,7 @@ pub fn read_one_tree(alloc: Global, bytes: &[u8], labels: &mut Labels) -> Result
     ensures grows { Grows labels.old labels.new }
 {
     let mut reader = LineReader::new(alloc);
-    let mut found = Found::Nothing;
+    let mut found = TreesRead::Nothing;
     let mut at: u32 = 0;
     let mut number: u32 = 1;
     while let Some(line) = next_line(bytes, number, at) {
@@ -74,8 +74,8 @@ pub fn read_one_tree(alloc: Global, bytes: &[u8], labels: &mut Labels) -> Result
     }
     let kind = FaultKind::BadTree;
     match found {
-        Found::One(tree) => Ok(tree),
-        Found::Nothing => Err(ReadError::Fault(FileFault { line: 1, kind })),
-        Found::Second(line) => Err(ReadError::Fault(FileFault { line, kind })),
+        TreesRead::One(tree) => Ok(tree),
+        TreesRead::Nothing => Err(ReadError::Fault(FileFault { line: 1, kind })),
+        TreesRead::Second(line) => Err(ReadError::Fault(FileFault { line, kind })),
     }
 }

@@ -1,5 +1,5 @@
 // Distinct texts, numbered in the order of first sight, in a hash table.
-ghost use Rattle.std.specs.Prelude.{◌≡◌, ℕ, ◌+◌, ◌-◌, ◌^◌, ◌<◌, ◌≤◌, List, [], ◌∷◌, ◌++◌, length, IfOk, OnOk, OnErr, slice_get, Some, Contains, IfSome, None};
+ghost use Rattle.std.specs.Prelude.{◌≡◌, ℕ, ◌+◌, ◌-◌, ◌^◌, ◌<◌, ◌≤◌, List, [], ◌∷◌, ◌++◌, length, IfOk, OnOk, OnErr, slice_get, Some, Contains, IfSome, None, map};
 ghost use Rattle.tib_lex.specs.Lines.{HasNoFeed};
 ghost use Rattle.tib_lex.specs.Lists.{Each};
 ghost use Rattle.tib_tree.specs.Grows.{Grows, Adds, AreDistinct};
@@ -83,5 +83,14 @@ impl TextSet {
         ensures { slice_get self.now label ≡ Some result.now }
     {
         &self.texts[label as usize]
+    }
+
+    /// The texts as a set, in their order. Takes no memory.
+    pub fn into_texts(self) -> IndexSet<Vec<u8>>
+        ensures texts { map (λ text. text.items) result.keys ≡ self }
+        ensures few { length result.keys < 2 ^ 32 }
+    {
+        let TextSet { texts, .. } = self;
+        texts
     }
 }

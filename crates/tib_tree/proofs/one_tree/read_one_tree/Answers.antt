@@ -6,8 +6,8 @@ use Rattle.tib_tree.specs.Lines.{tree_line, texts_in}
 use Rattle.tib_tree.specs.Grows.{AddsAll}
 use Rattle.tib_tree.proofs.FileRead.{line_long}
 use Rattle.tib_tree.proofs.Growing.{grows_twice, grows_not}
-use Rattle.tib_tree.specs.Found.{Counts, CountsLine}
-use Rattle.tib_tree.specs.declared.found.Found.{Found}
+use Rattle.tib_tree.specs.TreesRead.{Counts, CountsLine}
+use Rattle.tib_tree.specs.declared.trees_read.TreesRead.{TreesRead}
 use Rattle.tib_tree.proofs.Counting.{starts, step, ended, failed, IsAnswer}
 use Rattle.tib_tree.proofs.one_tree.read_one_tree.Goals as goal
 
@@ -46,15 +46,15 @@ returns-in-Err-clause-tree c =
 
 pub returns-in-One-clause-tree : goal.returns-in-One-clause-tree
 returns-in-One-clause-tree c =
-    subst (λ (now : Found). IsAnswer c.loop-line.labels c.args.bytes.now now) c.in-One.is
+    subst (λ (now : TreesRead). IsAnswer c.loop-line.labels c.args.bytes.now now) c.in-One.is
     (ended c.args.labels.now c.loop-line.labels c.loop-line.found c.loop-line.number c.loop-line.at c.args.bytes.now (c.in_default.ensures.none refl) c.loop-line.invariant.underway)
 
 pub returns-in-Nothing-clause-tree : goal.returns-in-Nothing-clause-tree
 returns-in-Nothing-clause-tree c =
-    subst (λ (now : Found). IsAnswer c.loop-line.labels c.args.bytes.now now) c.in-Nothing.is
+    subst (λ (now : TreesRead). IsAnswer c.loop-line.labels c.args.bytes.now now) c.in-Nothing.is
     (ended c.args.labels.now c.loop-line.labels c.loop-line.found c.loop-line.number c.loop-line.at c.args.bytes.now (c.in_default.ensures.none refl) c.loop-line.invariant.underway)
 
 pub returns-clause-tree : goal.returns-clause-tree
 returns-clause-tree c =
-    subst (λ (now : Found). IsAnswer c.loop-line.labels c.args.bytes.now now) c.in-Second.is
+    subst (λ (now : TreesRead). IsAnswer c.loop-line.labels c.args.bytes.now now) c.in-Second.is
     (ended c.args.labels.now c.loop-line.labels c.loop-line.found c.loop-line.number c.loop-line.at c.args.bytes.now (c.in_default.ensures.none refl) c.loop-line.invariant.underway)
