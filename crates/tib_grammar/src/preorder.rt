@@ -69,10 +69,20 @@ impl<P: Drop> Side<P> {
             preorder_of s ≡ pairs_of items.items → ⊥ }
         ensures no_memory { result ≢ Err ShapeError.OutOfMemory }
     {
-        if is_one_side(&items) {
-            Ok(Side {
-                items: SmallVec::from_vec(items),
-            })
+        Side::from_items(SmallVec::from_vec(items))
+    }
+
+    /// The same of items that take no memory of their own if they are up to three.
+    pub fn from_items(items: SmallVec<Item<P>, 3>) -> Result<Side<P>, ShapeError>
+        requires { length items.items < 2 ^ 32 }
+        ensures side { IfOk result (λ s. preorder_of s ≡ pairs_of items.items) }
+        ensures not_a_tree { result ≡ Err ShapeError.NotATree → (s : SideFor ℕ P) →
+            preorder_of s ≡ pairs_of items.items → ⊥ }
+        ensures no_memory { result ≢ Err ShapeError.OutOfMemory }
+    {
+        let slice = items.as_slice();
+        if is_one_side(slice) {
+            Ok(Side { items })
         } else {
             Err(ShapeError::NotATree)
         }

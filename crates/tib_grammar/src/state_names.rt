@@ -7,6 +7,7 @@ use crate::Names;
 use indexmap::IndexSet;
 use std::alloc::{AllocError, Global};
 use tib_lex::is_name;
+use tib_tree::Labels;
 
 // Whether a text has a full stop.
 fn has_stop(text: &[u8]) -> bool
@@ -49,6 +50,16 @@ impl Names {
             }
         }
         Ok(Some(Names { texts: names }))
+    }
+
+    /// The texts of a table, which are state names, as names in their order. It takes no memory.
+    pub fn from_labels(texts: Labels) -> Names
+        requires { AreStateNames texts }
+        ensures { result ≡ texts }
+    {
+        Names {
+            texts: texts.into_texts(),
+        }
     }
 
     /// How many names. It takes no memory.
