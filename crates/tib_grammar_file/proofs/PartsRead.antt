@@ -17,7 +17,7 @@ use Rattle.tib_grammar_file.specs.Rule.{has_dot, weight_words, Parts, parts, wei
 use Rattle.tib_grammar_file.specs.Found.{text_at, found_parts, FoundIn, FoundLies, IsCost}
 use Rattle.tib_grammar_file.specs.Raw.{AddsLine}
 use Rattle.tib_grammar_file.specs.declared.raw.RawRules.{RawRules}
-use Rattle.tib_grammar_file.specs.declared.rule.Found.{Found}
+use Rattle.tib_grammar_file.specs.declared.rule.LeftAndWeight.{LeftAndWeight}
 use Rattle.tib_lex.specs.declared.fault.LineError.{LineError}
 use Rattle.tib_lex.specs.declared.fault.LineError.TheVariants as errors
 use Rattle.tib_grammar_file.specs.Weight.{cost_of}
@@ -105,7 +105,7 @@ places_few line ts us left places w same e =
     let r = rule_back (words_at line us) (parts left (items_back line places) w) e in
     omega (arith, back_long line places, ap length r.nodes, ap length r.spelled, nodes_few r.tree, length-append (spell r.tree) (weight_words w), length-map us (word_at line), ap length same)
 
-pub line_few : (line : List ℕ) (ts us : List Token) (places these : List Place) (o : Option Found) (f : Found) → us ≡ ts → parts_of (words_at line us) ≡ found_parts line places o → o ≡ Some f → these ≡ places → length ts ≤ length line → length these ≤ length line
+pub line_few : (line : List ℕ) (ts us : List Token) (places these : List Place) (o : Option LeftAndWeight) (f : LeftAndWeight) → us ≡ ts → parts_of (words_at line us) ≡ found_parts line places o → o ≡ Some f → these ≡ places → length ts ≤ length line → length these ≤ length line
 line_few line ts us places these o f same e is t few =
     omega (arith, places_few line ts us (text_of (word_at line f.left)) places (text_at line f.weight) same (e ∙ ap (found_parts line places) is), ap length t, few)
 
@@ -117,12 +117,12 @@ pub good_rule_line : (scale : Scale) (line : List ℕ) (ts us : List Token) (lef
 good_rule_line scale line ts us left places w cost s e h =
     line_parts scale line ts us _ s ∙ ap (with_cost left (items_back line places)) e ∙ (chosen (length (items_back line places)) (length places) _ _ (back_long line places)).0 h
 
-pub some_found : (line : List ℕ) (ts us : List Token) (places : List Place) (o p : Option Found) → words_of line ≡ Some (words_at line ts) → 0 < length ts → us ≡ ts → parts_of (words_at line us) ≡ found_parts line places o → o ≡ p → SomeLine line ts us (found_parts line places p)
+pub some_found : (line : List ℕ) (ts us : List Token) (places : List Place) (o p : Option LeftAndWeight) → words_of line ≡ Some (words_at line ts) → 0 < length ts → us ≡ ts → parts_of (words_at line us) ≡ found_parts line places o → o ≡ p → SomeLine line ts us (found_parts line places p)
 some_found line ts us places o p w n e r s = record { words = w; some = n; same = e; read = r ∙ ap (found_parts line places) s }
 
-pub found_lies : (long : ℕ) (places : List Place) (o : Option Found) (f : Found) → FoundLies long places o → o ≡ Some f → FoundIn long places f
-found_lies long places o f h e = subst (λ (p : Option Found). FoundLies long places p) e h
+pub found_lies : (long : ℕ) (places : List Place) (o : Option LeftAndWeight) (f : LeftAndWeight) → FoundLies long places o → o ≡ Some f → FoundIn long places f
+found_lies long places o f h e = subst (λ (p : Option LeftAndWeight). FoundLies long places p) e h
 
-pub cost_failed : (scale : Scale) (before names texts : List (List ℕ)) (old now : RawRules) (line : List ℕ) (ts us : List Token) (places : List Place) (f : Found) (error : LineError) → SomeLine line ts us (found_parts line places (Some f)) → IsCost (Err error) (cost_of scale (text_at line f.weight)) → AddsLine before names texts old now (Err error) (rule_line scale line)
+pub cost_failed : (scale : Scale) (before names texts : List (List ℕ)) (old now : RawRules) (line : List ℕ) (ts us : List Token) (places : List Place) (f : LeftAndWeight) (error : LineError) → SomeLine line ts us (found_parts line places (Some f)) → IsCost (Err error) (cost_of scale (text_at line f.weight)) → AddsLine before names texts old now (Err error) (rule_line scale line)
 cost_failed scale before names texts old now line ts us places f (errors.Fault kind) s h = bad_cost_line scale line ts us _ kind s h
 cost_failed scale before names texts old now line ts us places f errors.OutOfMemory s h = tt

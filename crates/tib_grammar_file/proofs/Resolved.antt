@@ -1,13 +1,14 @@
 -- How leaves are resolved into states and labels.
 use Rattle.tib_tree.specs.Trees.{most_nodes}
 use Rattle.std.proofs.Common.{◌≡◌, ℕ, ◌+◌, ◌<◌, ◌≤◌, List, [], ◌∷◌, ◌++◌, length, get_or, take, drop, refl, ap, sym, ◌∙◌, subst, arith, append-nil, zero, suc}
-use Rattle.std.specs.Prelude.{slice_get, Some, None, Contains}
+use Rattle.std.specs.Prelude.{false, slice_get, Option, Some, None, IfSome, Contains}
 use Rattle.std.specs.List.{All}
-use Rattle.std.proofs.lemmas.List.{map-append, length-append, length-drop, length-take, drop-drop, take_all}
-use Rattle.std.proofs.lemmas.Option.{slice_get_within}
+use Rattle.std.proofs.lemmas.List.{map-append, length-append, length-drop, length-take, drop-drop, take_all, take_more}
+use Rattle.std.proofs.lemmas.Option.{slice_get_within, get_or_from_slice_get}
 use Rattle.tib_lex.specs.Lists.{Along, Each}
 use Rattle.tib_lex.proofs.Alongs.{along_more}
 use Rattle.tib_tree.specs.Grows.{Grows}
+use Rattle.tib_tree.proofs.Growing.{holds_text}
 use Rattle.tib_tree.specs.Nodes.{rank_of}
 use Rattle.tib_tree.specs.Trees.{Tree, Trees, none, tree, only, preorder, preorder_of, count as count_trees}
 use Rattle.tib_tree.specs.Written.{Item, items}
@@ -16,7 +17,7 @@ use Rattle.tib_grammar.specs.Items.{pair_of, pairs_of}
 use Rattle.tib_grammar.specs.declared.Item.{Item as SideItem}
 use Rattle.tib_grammar_file.specs.Raw.{IsRaw, IsRawRule, all_nodes}
 use Rattle.tib_grammar_file.specs.Rule.{RuleLine}
-use Rattle.tib_grammar_file.specs.Resolve.{IsFoundRaw, IsRawTree, IsSmallTree, IsRawGrammarOf}
+use Rattle.tib_grammar_file.specs.Resolve.{IsFoundRaw, IsStateOf, AreStatesOf, IsRawTree, IsSmallTree, IsRawGrammarOf}
 use Rattle.tib_grammar_file.specs.Value.{IsSymbol, IsNode, IsStateLeaf, IsRule}
 use Rattle.tib_grammar_file.specs.declared.raw.RawItem.{RawItem}
 use Rattle.tib_grammar_file.specs.declared.raw.RawRule.{RawRule}
@@ -56,6 +57,41 @@ label_node names labels texts text f rank raw i e no_leaf at k r =
       ),
       k ∙ ap rank_of r.2,
     )
+
+-- the states of texts, one text after another
+pub states_begin : (names texts : List (List ℕ)) (states : List (Option ℕ)) → states ≡ [] → AreStatesOf names states (take 0 texts)
+states_begin names texts states e = subst (λ (qs : List (Option ℕ)). Along (IsStateOf names) qs []) (sym e) tt
+
+is_state : (names : List (List ℕ)) (r : Option ℕ) (text : List ℕ) → IfSome r (λ n. slice_get names n ≡ Some text) → (r ≡ None → Contains names text → ⊥) → IsStateOf names r text
+is_state names None text found not_there = not_there refl
+is_state names (Some q) text found not_there = found
+
+pub states_step : (names texts : List (List ℕ)) (n : ℕ) (states more : List (Option ℕ)) (r : Option ℕ) (text : List ℕ) → slice_get texts n ≡ Some text → IfSome r (λ q. slice_get names q ≡ Some text) → (r ≡ None → Contains names text → ⊥) → more ≡ states ++ r ∷ [] → AreStatesOf names states (take n texts) → AreStatesOf names more (take (n + 1) texts)
+states_step names texts n states more r text at found not_there e are =
+    let here : get_or texts n text ≡ text = get_or_from_slice_get texts n text text at in
+    let longer : take (n + 1) texts ≡ take n texts ++ text ∷ [] = take_more texts n text (slice_get_within texts n text at) ∙ ap (λ (t : List ℕ). take n texts ++ t ∷ []) here in
+    subst (λ (qs : List (Option ℕ)). Along (IsStateOf names) qs (take (n + 1) texts)) (sym e)
+    (subst (λ (ts : List (List ℕ)). Along (IsStateOf names) (states ++ r ∷ []) ts) (sym longer)
+    (along_more (IsStateOf names) states (take n texts) r text are (is_state names r text found not_there)))
+
+pub states_end : (names texts : List (List ℕ)) (n : ℕ) (states : List (Option ℕ)) → length texts ≤ n → AreStatesOf names states (take n texts) → AreStatesOf names states texts
+states_end names texts n states h are = subst (λ (ts : List (List ℕ)). Along (IsStateOf names) states ts) (take_all n texts h) are
+
+-- the state of one text
+state_at : (names texts : List (List ℕ)) (states : List (Option ℕ)) (n : ℕ) (d : Option ℕ) (text : List ℕ) → AreStatesOf names states texts → slice_get texts n ≡ Some text → IsStateOf names (get_or states n d) text
+state_at names [] states n d text are at = absurd (omega (arith, slice_get_within [] n text at))
+state_at names (t ∷ ts) [] n d text are at = absurd are
+state_at names (t ∷ ts) (q ∷ qs) zero d text are at = let same : t ≡ text = cc in subst (λ (x : List ℕ). IsStateOf names q x) same are.0
+state_at names (t ∷ ts) (q ∷ qs) (suc n) d text are at = state_at names ts qs n d text are.1 at
+
+-- an unquoted leaf is the state whose name its text is
+found_leaf : (names : List (List ℕ)) (text : List ℕ) (item : RawItem) (r : Option ℕ) → IsStateOf names r text → item.quoted ≡ false → item.kids ≡ None → IsFoundRaw names text r item
+found_leaf names text item None not_there plain leaf = λ l. not_there l.held
+found_leaf names text item (Some q) at plain leaf = (record { plain = plain; leaf = leaf; held = holds_text names text q at }, at)
+
+pub leaf_at : (names texts : List (List ℕ)) (states : List (Option ℕ)) (item : RawItem) (r : Option ℕ) (text : List ℕ) → AreStatesOf names states texts → r ≡ get_or states item.text None → item.quoted ≡ false → item.kids ≡ None → slice_get texts item.text ≡ Some text → IsFoundRaw names text r item
+leaf_at names texts states item r text are is plain leaf at =
+    found_leaf names text item r (subst (λ (x : Option ℕ). IsStateOf names x text) (sym is) (state_at names texts states item.text None text are at)) plain leaf
 
 symbol_grows : (names a b : List (List ℕ)) → Grows a b → (s : Symbol ℕ ℕ) (i : Item) → IsSymbol names a s i → IsSymbol names b s i
 symbol_grows names a b g (hole q) i h = h

@@ -6,7 +6,7 @@ use Rattle.tib_lex.specs.declared.token.Token.{Token}
 use Rattle.tib_tree.specs.Shape.{items_back, PlaceLies}
 use Rattle.tib_tree.specs.declared.shape.Place.{Place}
 use Rattle.tib_grammar_file.specs.Rule.{Parts, parts}
-use Rattle.tib_grammar_file.specs.declared.rule.Found.{Found}
+use Rattle.tib_grammar_file.specs.declared.rule.LeftAndWeight.{LeftAndWeight}
 use Rattle.tib_lex.specs.declared.fault.FaultKind.{FaultKind}
 use Rattle.tib_lex.specs.declared.fault.LineError.{LineError}
 use Rattle.tib_lex.specs.declared.fault.LineError.TheVariants as errors
@@ -19,17 +19,17 @@ abbrev pub WeightLies : ℕ → Option Token → Type 0
 WeightLies long None = Unit {0}
 WeightLies long (Some t) = Lies long t
 
-abbrev pub found_parts : List ℕ → List Place → Option Found → Option Parts
+abbrev pub found_parts : List ℕ → List Place → Option LeftAndWeight → Option Parts
 found_parts line places None = None
 found_parts line places (Some f) =
     Some (parts (text_of (word_at line f.left)) (items_back line places) (text_at line f.weight))
 
-pub record FoundIn (long : ℕ) (places : List Place) (f : Found) : Type 0 where
+pub record FoundIn (long : ℕ) (places : List Place) (f : LeftAndWeight) : Type 0 where
   pub left : Lies long f.left
   pub weight : WeightLies long f.weight
   pub all : All (PlaceLies long) places
 
-abbrev pub FoundLies : ℕ → List Place → Option Found → Type 0
+abbrev pub FoundLies : ℕ → List Place → Option LeftAndWeight → Type 0
 FoundLies long places None = Unit {0}
 FoundLies long places (Some f) = FoundIn long places f
 

@@ -17,6 +17,15 @@ abbrev pub IsFoundRaw : List (List ℕ) → List ℕ → Option ℕ → RawItem 
 IsFoundRaw names text None item = IsPlainLeaf names text item → ⊥
 IsFoundRaw names text (Some q) item = IsPlainLeaf names text item × (slice_get names q ≡ Some text)
 
+-- the state whose name a text is
+abbrev pub IsStateOf : List (List ℕ) → Option ℕ → List ℕ → Type 0
+IsStateOf names None text = Contains names text → ⊥
+IsStateOf names (Some q) text = slice_get names q ≡ Some text
+
+-- that of each text
+abbrev pub AreStatesOf : List (List ℕ) → List (Option ℕ) → List (List ℕ) → Type 0
+AreStatesOf names states texts = Along (IsStateOf names) states texts
+
 -- nodes of one tree
 pub record IsOneTree (is : List Item) : Type 0 where
   pub tree : Written

@@ -15,7 +15,7 @@ use tib_tree::Reader;
 
 // The tokens of a rule's left state and of its weight.
 #[derive(Clone, Copy, Debug)]
-pub(crate) struct Found {
+pub(crate) struct LeftAndWeight {
     pub left: Token,
     pub weight: Option<Token>,
 }
@@ -34,7 +34,8 @@ fn weight_token(hash: Token, name: Token) -> Option<Token>
     }
 }
 
-/// The token of the weight at the end of these tokens, if a hash and a name end them.
+/// The token of the weight at the end of these tokens, if a hash and a name end them. It takes no
+/// memory, and looks at the last two tokens alone.
 pub fn weight_of(rest: &[Token]) -> Option<Token>
     ensures weight { (line : List ℕ) → weight_in (words_at line rest.now) ≡ text_at line result }
     ensures long { IfSome result (λ t. 2 ≤ length rest.now) }
@@ -47,7 +48,7 @@ pub fn weight_of(rest: &[Token]) -> Option<Token>
     weight_token(rest[n - 2], rest[n - 1])
 }
 
-/// The tokens of the tree before the weight.
+/// The tokens of the tree before the weight. It takes no memory, and looks at no token.
 pub fn tree_tokens(rest: &[Token], weight: Option<Token>) -> &[Token]
     requires { IfSome weight (λ t. 2 ≤ length rest.now) }
     ensures { result.now ≡ front_of weight rest.now }
@@ -105,7 +106,7 @@ pub(crate) fn read_parts(
     tokens: &[Token],
     reader: &mut Reader,
     text: &mut Vec<u8>,
-) -> Result<Option<Found>, AllocError>
+) -> Result<Option<LeftAndWeight>, AllocError>
     requires few { length tokens.now < 2 ^ 32 - 1 }
     requires lie { All (Lies (length line.now)) tokens.now }
     ensures parts { IfOk result (λ found. parts_of (words_at line.now tokens.now)
@@ -125,7 +126,7 @@ pub(crate) fn read_parts(
     if !reader.read(tree_tokens(rest, weight))? {
         return Ok(None);
     }
-    Ok(Some(Found { left, weight }))
+    Ok(Some(LeftAndWeight { left, weight }))
 }
 
 /// The cost of a rule with this weight or without one. A fault is that of the weight; `OutOfMemory`

@@ -10,7 +10,7 @@ use Rattle.tib_grammar_file.proofs.resolve.resolve_items.Given as goal
 
 abbrev pub invariant-loop-item : goal.invariant-loop-item
 invariant-loop-item l = record {
-  side : (is : List Item) → Along (IsRaw l.texts) (take l.item-index l.items) is → Along (IsNode l.names l.labels) (pairs_of l.side.items) is;
+  side : (is : List Item) → Along (IsRaw l.tables.texts.now) (take l.item-index l.items) is → Along (IsNode l.tables.names.now l.labels) (pairs_of l.side.items) is;
   long : length l.side.items ≡ l.item-index;
   added : AddsSymbols l.fn.labels (pairs_of l.side.items) l.labels;
   few : length l.labels ≤ length l.fn.labels + l.item-index;
