@@ -67,23 +67,22 @@ fn grammar_over<S: Semiring>(names: Names, rules: Vec<Rule<u32>>) -> Grammar<S>
 fn build<S: Semiring>(
     alloc: Global,
     raw: &RawRules,
-    names: &Labels,
+    names: Labels,
     texts: &Labels,
     labels: &mut Labels,
 ) -> Result<Grammar<S>, AllocError>
     requires source { (start : List ℕ) × (lines : List RuleLine)
-        × IsSource names.now texts.now raw.now start lines }
+        × IsSource names texts.now raw.now start lines }
     requires room { length labels.old + length raw.now.nodes.items < 2 ^ 32 - 1 }
     ensures grammar { IfOk result (λ g. (start : List ℕ) (lines : List RuleLine) →
-        IsSource names.now texts.now raw.now start lines → IsGrammarOf labels.new g start lines) }
+        IsSource names texts.now raw.now start lines → IsGrammarOf labels.new g start lines) }
     ensures added { IfOk result (λ g. AddsRules labels.old g.rules labels.new) }
     ensures few { length labels.new ≤ length labels.old + length raw.now.nodes.items }
     ensures grows { Grows labels.old labels.new }
 {
     texts.len();
-    let rules = resolve_rules(alloc, raw, names, texts, labels)?;
-    let states = state_names(alloc, names)?;
-    Ok(grammar_over(states, rules))
+    let rules = resolve_rules(alloc, raw, &names, texts, labels)?;
+    Ok(grammar_over(Names::from_labels(names), rules))
 }
 
 /// Reads a grammar file. The states are the start and the left states, numbered in the order of
@@ -117,7 +116,7 @@ pub fn read_grammar<S: Semiring>(
     let mut names = Labels::new(alloc);
     let mut texts = Labels::new(alloc);
     match read_raw(alloc, S::SCALE, bytes, &mut names, &mut texts) {
-        Ok(raw) => match build(alloc, &raw, &names, &texts, labels) {
+        Ok(raw) => match build(alloc, &raw, names, &texts, labels) {
             Ok(grammar) => Ok(grammar),
             Err(AllocError) => Err(ReadError::OutOfMemory),
         },

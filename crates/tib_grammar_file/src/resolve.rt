@@ -14,6 +14,7 @@ ghost use Rattle.tib_grammar_file.specs.Rule.{RuleLine};
 ghost use Rattle.tib_grammar_file.specs.Value.{IsNode, IsRule};
 
 use crate::raw::{RawItem, RawRule, RawRules};
+use smallvec::SmallVec;
 use std::alloc::{AllocError, Global};
 use tib_grammar::{Item, Rule, Side};
 use tib_tree::{Labels, ShapeError};
@@ -88,7 +89,7 @@ fn resolve_items(
     items: &[RawItem],
     tables: &Tables,
     labels: &mut Labels,
-) -> Result<Vec<Item<u32>>, AllocError>
+) -> Result<SmallVec<Item<u32>, 3>, AllocError>
     requires texts { All (λ r. r.text < length tables.now.texts.now) items.now }
     requires plain { Each HasNoFeed tables.now.texts.now }
     requires states { AreStatesOf tables.now.names.now tables.now.states.items
@@ -102,7 +103,7 @@ fn resolve_items(
     ensures few { length labels.new ≤ length labels.old + length items.now }
     ensures grows { Grows labels.old labels.new }
 {
-    let mut side = Vec::with_capacity(alloc, items.len())?;
+    let mut side = SmallVec::with_capacity(alloc, items.len())?;
     for item in items {
         let resolved = resolve_item(*item, tables, labels)?;
         side.push(resolved)?;
@@ -131,7 +132,7 @@ fn resolve_side(
     ensures grows { Grows labels.old labels.new }
 {
     let resolved = resolve_items(alloc, items, tables, labels)?;
-    match Side::from_preorder(resolved) {
+    match Side::from_items(resolved) {
         Ok(side) => Ok(side),
         Err(ShapeError::NotATree) => unreachable!(),
         Err(ShapeError::OutOfMemory) => unreachable!(),

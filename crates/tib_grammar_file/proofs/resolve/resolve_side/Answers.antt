@@ -9,4 +9,4 @@ resolve_items-requires-clause-texts c = all_texts c.args.tables.now.texts.now c.
 pub unreachable-requires : goal.unreachable-requires
 unreachable-requires c =
     is_a_tree c.args.tables.now.names.now c.resolve_items.new.labels c.args.tables.now.texts.now c.args.items.now c.in_ok-resolved.resolved.items c.requires.tree c.in_ok-resolved.ensures.items
-    (c.from_preorder.ensures.not_a_tree (c.in-Err-NotATree.is ∙ ap Err c.in-Err-NotATree.field-0-is))
+    (c.from_items.ensures.not_a_tree (c.in-Err-NotATree.is ∙ ap Err c.in-Err-NotATree.field-0-is))
