@@ -1,8 +1,10 @@
 // Reads tree-to-string transducer files.
 ghost use Rattle.std.specs.Prelude.{◌≡◌, ◌≤◌, ◌<◌, ◌+◌, ◌-◌, ◌^◌, length, IfOk, IfErr};
 ghost use Rattle.tib_lex.specs.Limits.{most_bytes};
-ghost use Rattle.tib_tree.specs.Grows.{Grows};
+ghost use Rattle.tib_tree.specs.Grows.{Grows, AddsAll};
+ghost use Rattle.tib_transducer_file.specs.Added.{rule_texts};
 ghost use Rattle.tib_strings.specs.Range.{AreWithin, AreShaped};
+ghost use Rattle.tib_strings.specs.RuleValue.{string_view};
 ghost use Rattle.tib_strings.specs.Labelled.{AreLabelled};
 ghost use Rattle.tib_strings.specs.TransducerText.{ReadsAs};
 ghost use Rattle.tib_strings.specs.FileFaults.{IsCause};
@@ -33,8 +35,10 @@ fn transducer_over<S: Semiring>(names: Names, rules: Vec<StringRule<u32>>) -> St
 
 /// Reads a tree-to-string transducer file. The states are the start and those of the rules,
 /// numbered in the order in which they first occur in the file; variables are numbered anew in
-/// preorder of each left side. The texts of labels and words go into the table of labels. Where
-/// nothing is weighed, any name is taken as a weight, and each rule costs 0.
+/// preorder of each left side. The table of labels grows by just the texts of labels and words that
+/// are new, in the order of the file: the labels of a left side in preorder, where a variable has
+/// the one that it asks for, and then the words of the list. Where nothing is weighed, any name is
+/// taken as a weight, and each rule costs 0.
 ///
 /// A fault names the first line that has one and what is wrong there first: no start (line 1), a
 /// bad token, a bad rule, a lone variable on the left, a variable twice on the left, an unknown
@@ -51,6 +55,8 @@ pub fn read_string_transducer<S: Semiring>(
     requires room { length labels.old + length bytes.now < 2 ^ 32 - 1 }
     ensures text { IfOk result (λ t. ReadsAs S.SCALE labels.new bytes.now t) }
     ensures labelled { IfOk result (λ t. AreLabelled (length labels.new) t.rules) }
+    ensures added { IfOk result (λ t. AddsAll labels.old (rule_texts string_view labels.new t.rules)
+        labels.new) }
     ensures fault { IfErr result (λ e. IsCause S.SCALE bytes.now e) }
     ensures labels { Grows labels.old labels.new }
     ensures few { length labels.new ≤ length labels.old + length bytes.now }

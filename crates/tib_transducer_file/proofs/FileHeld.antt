@@ -143,8 +143,8 @@ module _ {Right : List Word → List Item → Type 0} {read : List Word → Opti
       begun scale n line lines start rules (start_line line) (each_line (rule_line_by read scale) (suc n) lines) (file_from (rule_line_by read scale) (suc n) lines) refl (rules_held scale (suc n) lines) (file_held scale (suc n) lines start rules) e
 
   -- the file, by its start and its rules
-  pub file_read : {R : Type 0} (Is : List (List ℕ) → List (List ℕ) → R → RuleLine → Type 0) (w v : Scale) (bytes : List ℕ) (before first names labels : List (List ℕ)) (b : Begun) (rules : Vec R) → v ≡ w → before ≡ [] → Began bytes before first b → AreFileRules Is first names labels (Ok rules) (each_line (rule_line_by read v) b.number (lines_of (drop b.at bytes))) → FileReadBy Right Is w bytes names labels rules.items
-  file_read Is w v bytes before first names labels b rules same empty g (lines, gave, are, added) =
+  pub file_read : {R : Type 0} (Is : List (List ℕ) → List (List ℕ) → R → RuleLine → Type 0) (w v : Scale) (bytes : List ℕ) (before first names held labels : List (List ℕ)) (b : Begun) (rules : Vec R) → v ≡ w → before ≡ [] → Began bytes before first b → AreFileRules Is first names held labels (Ok rules) (each_line (rule_line_by read v) b.number (lines_of (drop b.at bytes))) → FileReadBy Right Is w bytes names labels rules.items
+  file_read Is w v bytes before first names held labels b rules same empty g (lines, gave, are, added, texts) =
       let e : file_from (rule_line_by read w) 1 (lines_of bytes) ≡ Ok (g.start, lines) = g.read (rule_line_by read w) ∙ ap (λ (x : Scale). started g.start (each_line (rule_line_by read x) b.number (lines_of (drop b.at bytes)))) (sym same) ∙ ap (started g.start) gave in
       record {
         start = g.start;
@@ -164,6 +164,6 @@ module _ {Right : List Word → List Item → Type 0} {read : List Word → Opti
   begun_fault scale bytes before first errors.OutOfMemory h = tt
 
   -- and of the rules
-  pub rules_fault : {R : Type 0} (Is : List (List ℕ) → List (List ℕ) → R → RuleLine → Type 0) (w v : Scale) (bytes : List ℕ) (before first names labels : List (List ℕ)) (b : Begun) (e : ReadError) → v ≡ w → Began bytes before first b → AreFileRules Is first names labels (Err e) (each_line (rule_line_by read v) b.number (lines_of (drop b.at bytes))) → IsCauseBy Right w bytes e
-  rules_fault Is w v bytes before first names labels b (errors.Fault fault) same g h = fault_is_first format w bytes fault (g.read (rule_line_by read w) ∙ ap (λ (x : Scale). started g.start (each_line (rule_line_by read x) b.number (lines_of (drop b.at bytes)))) (sym same) ∙ ap (started g.start) h)
-  rules_fault Is w v bytes before first names labels b errors.OutOfMemory same g h = tt
+  pub rules_fault : {R : Type 0} (Is : List (List ℕ) → List (List ℕ) → R → RuleLine → Type 0) (w v : Scale) (bytes : List ℕ) (before first names held labels : List (List ℕ)) (b : Begun) (e : ReadError) → v ≡ w → Began bytes before first b → AreFileRules Is first names held labels (Err e) (each_line (rule_line_by read v) b.number (lines_of (drop b.at bytes))) → IsCauseBy Right w bytes e
+  rules_fault Is w v bytes before first names held labels b (errors.Fault fault) same g h = fault_is_first format w bytes fault (g.read (rule_line_by read w) ∙ ap (λ (x : Scale). started g.start (each_line (rule_line_by read x) b.number (lines_of (drop b.at bytes)))) (sym same) ∙ ap (started g.start) h)
+  rules_fault Is w v bytes before first names held labels b errors.OutOfMemory same g h = tt

@@ -1,3 +1,4 @@
+pub mod AddedLabels
 pub mod Backs
 pub mod FaultsOnce
 pub mod FaultsRead

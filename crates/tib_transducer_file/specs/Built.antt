@@ -14,6 +14,7 @@ use Rattle.tib_tree.specs.Grows.{AddsAll}
 use Rattle.tib_tree.specs.Written.{Item}
 use Rattle.tib_tree.specs.Machine.{nodes_of}
 use Rattle.tib_lex.specs.Grammar.{Word}
+use Rattle.tib_transducer_file.specs.Added.{AddsLabels, labels_in}
 use Rattle.tib_transducer_file.specs.Forms.{pair_in}
 use Rattle.tib_transducer_file.specs.Rule.{Parts, RuleLine, state_of, is_unknown}
 use Rattle.tib_transducer_file.specs.Value.{states_in, states_of}
@@ -30,30 +31,34 @@ AreKnown numbers items = list_any (λ i. is_unknown numbers (pair_in i)) items �
 abbrev pub AddsStates : List (List ℕ) → Parts → List (List ℕ) → Type 0
 AddsStates before p names = AddsAll before (state_of p ∷ states_in p.right) names
 
--- a rule of a line went last, and its states into the table of names
+-- a rule of a line went last, its states into the table of names, and its labels into that of
+-- labels, which held these before
 pub record AddsRule {R : Type 0} (Is : List (List ℕ) → List (List ℕ) → R → RuleLine → Type 0)
-    (before names labels : List (List ℕ)) (old now : List R) (line : RuleLine) : Type 0 where
+    (before names held labels : List (List ℕ)) (old now : List R) (line : RuleLine) : Type 0 where
   pub rule : R
   pub is : Is names labels rule line
   pub adds : AddsStates before line.parts names
+  pub texts : AddsLabels held line.parts labels
   pub last : now ≡ old ++ rule ∷ []
 
 -- a line has no tokens, or its rule went last
 abbrev pub AddsLine : {R : Type 0} → (List (List ℕ) → List (List ℕ) → R → RuleLine → Type 0) →
-    List (List ℕ) → List (List ℕ) → List (List ℕ) → List R → List R →
+    List (List ℕ) → List (List ℕ) → List (List ℕ) → List (List ℕ) → List R → List R →
     Result (Unit {0}) LineError → Result (Option RuleLine) FaultKind → Type 0
-AddsLine Is before names labels old now (Ok done) wanted =
-    ((wanted ≡ Ok None) × (names ≡ before) × (now ≡ old))
-    ⊎ ((line : RuleLine) × (wanted ≡ Ok (Some line)) × AddsRule Is before names labels old now line)
-AddsLine Is before names labels old now (Err (line_errors.Fault kind)) wanted = wanted ≡ Err kind
-AddsLine Is before names labels old now (Err line_errors.OutOfMemory) wanted = Unit {0}
+AddsLine Is before names held labels old now (Ok done) wanted =
+    ((wanted ≡ Ok None) × (names ≡ before) × (labels ≡ held) × (now ≡ old))
+    ⊎ ((line : RuleLine) × (wanted ≡ Ok (Some line))
+    × AddsRule Is before names held labels old now line)
+AddsLine Is before names held labels old now (Err (line_errors.Fault kind)) wanted =
+    wanted ≡ Err kind
+AddsLine Is before names held labels old now (Err line_errors.OutOfMemory) wanted = Unit {0}
 
 -- the rules of a file
 abbrev pub AreFileRules : {R : Type 0} → (List (List ℕ) → List (List ℕ) → R → RuleLine → Type 0) →
-    List (List ℕ) → List (List ℕ) → List (List ℕ) →
+    List (List ℕ) → List (List ℕ) → List (List ℕ) → List (List ℕ) →
     Result (Vec R) ReadError → Result (List RuleLine) FileFault → Type 0
-AreFileRules Is before names labels (Ok rules) wanted =
+AreFileRules Is before names held labels (Ok rules) wanted =
     (lines : List RuleLine) × (wanted ≡ Ok lines) × Along (Is names labels) rules.items lines
-    × AddsAll before (states_of lines) names
-AreFileRules Is before names labels (Err (errors.Fault fault)) wanted = wanted ≡ Err fault
-AreFileRules Is before names labels (Err errors.OutOfMemory) wanted = Unit {0}
+    × AddsAll before (states_of lines) names × AddsAll held (labels_in lines) labels
+AreFileRules Is before names held labels (Err (errors.Fault fault)) wanted = wanted ≡ Err fault
+AreFileRules Is before names held labels (Err errors.OutOfMemory) wanted = Unit {0}

@@ -1,4 +1,5 @@
 -- The definitions of the text of a transducer as it is read, and as it is printed.
+pub mod Added
 pub mod Begins
 pub mod Built
 pub mod ByName

@@ -1,7 +1,8 @@
 // Reads transducer files with any kind of right sides.
 ghost use Rattle.std.specs.Prelude.{◌≤◌, ◌<◌, ◌+◌, ◌-◌, ◌^◌, length, IfOk, IfErr};
 ghost use Rattle.tib_lex.specs.Limits.{most_bytes};
-ghost use Rattle.tib_tree.specs.Grows.{Grows};
+ghost use Rattle.tib_tree.specs.Grows.{Grows, AddsAll};
+ghost use Rattle.tib_transducer_file.specs.Added.{rule_texts};
 ghost use Rattle.tib_transducer_file.specs.FileHeld.{FileReadBy};
 ghost use Rattle.tib_transducer_file.specs.Faults.{IsCauseBy};
 ghost use Rattle.tib_transducer_file.specs.Value.{IsRuleBy};
@@ -26,7 +27,8 @@ pub struct FileRules<T> {
 }
 
 /// Reads a file of a transducer. The states are the start and those of the rules, each once, in the
-/// order in which they first occur in the file. The texts of labels go into the table of labels.
+/// order in which they first occur in the file. The table of labels grows by just the texts of
+/// labels that are new, rule by rule: those of the left side and then those of the right side.
 ///
 /// A fault is the first of the file. After an error the table may hold texts of some labels of the
 /// file, and the texts that it held keep their numbers; `OutOfMemory` says nothing about the file.
@@ -41,6 +43,8 @@ pub fn read_file<S: Semiring, R: RightReader>(
     ensures file { IfOk result (λ f. FileReadBy R.spells (IsRuleBy R.view) S.SCALE bytes.now
         f.names labels.new f.rules.items) }
     ensures few_rules { IfOk result (λ f. length f.rules.items ≤ length bytes.now) }
+    ensures added { IfOk result (λ f. AddsAll labels.old
+        (rule_texts R.view labels.new f.rules.items) labels.new) }
     ensures fault { IfErr result (λ e. IsCauseBy R.spells S.SCALE bytes.now e) }
     ensures labels { Grows labels.old labels.new }
     ensures few { length labels.new ≤ length labels.old + length bytes.now }

@@ -8,6 +8,7 @@ ghost use Rattle.tib_tree.specs.Grows.{Grows};
 ghost use Rattle.tib_transducer_file.specs.Rule.{rule_line_by, rule_line_of};
 ghost use Rattle.tib_transducer_file.specs.Value.{IsRuleBy};
 ghost use Rattle.tib_transducer_file.specs.Found.{FoundIn};
+ghost use Rattle.tib_transducer_file.specs.Added.{AddsLabels};
 ghost use Rattle.tib_transducer_file.specs.Built.{AddsLine, AddsStates, AreFileRules};
 ghost use Rattle.tib_transducer_file.specs.Reader.{FoundRuleBy, GoodRule, IsFoundBy, IsGood, IsRightAt, parts_found};
 
@@ -58,6 +59,8 @@ fn build<R: RightReader>(
         (rule_line_of (parts_found line.now left.now right.now found.now) cost)) }
     ensures adds { IfOk result (λ _. AddsStates names.old
         (parts_found line.now left.now right.now found.now) names.new) }
+    ensures texts { IfOk result (λ _. AddsLabels labels.old
+        (parts_found line.now left.now right.now found.now) labels.new) }
     ensures names { Grows names.old names.new }
     ensures labels { Grows labels.old labels.new }
     ensures few_names { length names.new ≤ length names.old + length line.now }
@@ -151,8 +154,8 @@ impl<R: RightReader> RuleReader<R> {
         requires plain { HasNoFeed line.now }
         requires names { length names.old + length line.now < 2 ^ 32 - 1 }
         requires labels { length labels.old + length line.now < 2 ^ 32 - 1 }
-        ensures line { AddsLine (IsRuleBy R.view) names.old names.new labels.new rules.old.items
-            rules.new.items result (rule_line_by R.reads scale line.now) }
+        ensures line { AddsLine (IsRuleBy R.view) names.old names.new labels.old labels.new
+            rules.old.items rules.new.items result (rule_line_by R.reads scale line.now) }
         ensures names { Grows names.old names.new }
         ensures labels { Grows labels.old labels.new }
         ensures few_names { length names.new ≤ length names.old + length line.now }
@@ -211,8 +214,8 @@ pub(crate) fn read_rules<R: RightReader>(
     requires number { first ≤ start + 1 }
     requires names { length names.old + (length bytes.now - start) < 2 ^ 32 - 1 }
     requires labels { length labels.old + (length bytes.now - start) < 2 ^ 32 - 1 }
-    ensures rules { AreFileRules (IsRuleBy R.view) names.old names.new labels.new result
-        (each_line (rule_line_by R.reads scale) first (lines_of (drop start bytes.now))) }
+    ensures rules { AreFileRules (IsRuleBy R.view) names.old names.new labels.old labels.new
+        result (each_line (rule_line_by R.reads scale) first (lines_of (drop start bytes.now))) }
     ensures labels { Grows labels.old labels.new }
     ensures few_names { length names.new ≤ length names.old + (length bytes.now - start) }
     ensures few_labels { length labels.new ≤ length labels.old + (length bytes.now - start) }

@@ -1,16 +1,18 @@
 // The sides of a rule.
 ghost use Rattle.std.specs.Prelude.{◌≡◌, ◌≤◌, ◌<◌, ◌+◌, ◌-◌, ◌^◌, ℕ, List, [], ◌∷◌, length, map, All, IfOk, Some, slice_get, Option, false};
+ghost use Rattle.std.specs.List.{flat_map};
 ghost use Rattle.indexmap.specs.IndexSet.{keys};
 ghost use Rattle.tib_lex.specs.Line.{Lies};
 ghost use Rattle.tib_lex.specs.Lines.{HasNoFeed};
 ghost use Rattle.tib_lex.specs.Lists.{Along};
-ghost use Rattle.tib_tree.specs.Grows.{Grows, AddsAll};
+ghost use Rattle.tib_tree.specs.Grows.{Grows, Adds, AddsAll};
 ghost use Rattle.tib_tree.specs.Shape.{items_back, item_at, PlaceLies};
 ghost use Rattle.tib_tree.specs.Trees.{preorder_of, most_nodes, IsOneTree};
 ghost use Rattle.tib_tree.specs.Written.{Item as ItemOf};
 ghost use Rattle.tib_grammar.specs.Items.{pair_of, pairs_of, holes_in};
 ghost use Rattle.tib_transducer.specs.Range.{AreNumbered};
 ghost use Rattle.tib_transducer.specs.Rules.{variables_of};
+ghost use Rattle.tib_transducer_file.specs.Added.{asked_as, on_left, on_right, left_labels};
 ghost use Rattle.tib_transducer_file.specs.Forms.{pair_in as spec_pair_in};
 ghost use Rattle.tib_transducer_file.specs.Rule.{is_unknown};
 ghost use Rattle.tib_transducer_file.specs.Found.{IsRootAt, parts_with, bytes_at};
@@ -41,6 +43,8 @@ fn read_asked(
     requires plain { HasNoFeed line.now }
     requires room { length labels.old < 2 ^ 32 - 1 }
     ensures asked { IfOk result (λ n. IsAsked labels.new n (text_at line.now label)) }
+    ensures texts { IfOk result (λ _. AddsAll labels.old (asked_as (text_at line.now label))
+        labels.new) }
     ensures grows { Grows labels.old labels.new }
     ensures few { length labels.new ≤ length labels.old + 1 }
 {
@@ -66,6 +70,8 @@ fn left_item(
     requires room { length labels.old < 2 ^ 32 - 1 }
     ensures item { IfOk result (λ s. IsLeftNode labels.new (pair_of s) (item_at line.now place)) }
     ensures numbered { IfOk result (λ s. AreNumbered number (holes_in (s ∷ []))) }
+    ensures texts { IfOk result (λ _. AddsAll labels.old (on_left (item_at line.now place))
+        labels.new) }
     ensures grows { Grows labels.old labels.new }
     ensures few { length labels.new ≤ length labels.old + 1 }
 {
@@ -103,6 +109,8 @@ fn root_item(
     ensures item { IfOk result (λ s. IsRootItem labels.new (pair_of s)
         (written_label (bytes_at line.now root.behind)) place.kids) }
     ensures numbered { IfOk result (λ s. holes_in (s ∷ []) ≡ []) }
+    ensures text { IfOk result (λ _. Adds labels.old
+        (written_label (bytes_at line.now root.behind)) labels.new) }
     ensures grows { Grows labels.old labels.new }
     ensures few { length labels.new ≤ length labels.old + 1 }
 {
@@ -126,6 +134,8 @@ fn push_below(
     requires room { length labels.old + length below.now < 2 ^ 32 - 1 }
     ensures items { IfOk result (λ _. PushesLeft labels.new items.old.items items.new.items
         (items_back line.now below.now)) }
+    ensures texts { IfOk result (λ _. AddsAll labels.old
+        (flat_map on_left (items_back line.now below.now)) labels.new) }
     ensures grows { Grows labels.old labels.new }
     ensures few { length labels.new ≤ length labels.old + length below.now }
 {
@@ -174,6 +184,9 @@ pub(crate) fn read_left(
         IsLeftSide labels.new (preorder_of s) (parts_with (items_back line.now places.now) right
         weight)) }
     ensures numbered { IfOk result (λ s. AreNumbered 0 (variables_of s)) }
+    ensures texts { IfOk result (λ _. (right : List ItemOf) (weight : Option (List ℕ)) → AddsAll
+        labels.old (left_labels (parts_with (items_back line.now places.now) right weight))
+        labels.new) }
     ensures grows { Grows labels.old labels.new }
     ensures few { length labels.new ≤ length labels.old + length places.now }
 {
@@ -260,6 +273,8 @@ pub(crate) fn right_nodes<R: RightReader>(
         (map R.symbol_of s.items) (items_back line.now places.now)) }
     ensures states { IfOk result (λ _. AddsAll names.old
         (states_in (items_back line.now places.now)) names.new) }
+    ensures texts { IfOk result (λ _. AddsAll labels.old
+        (flat_map on_right (items_back line.now places.now)) labels.new) }
     ensures names { Grows names.old names.new }
     ensures labels { Grows labels.old labels.new }
     ensures few_names { length names.new ≤ length names.old + length places.now }

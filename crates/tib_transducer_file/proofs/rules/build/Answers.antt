@@ -2,6 +2,8 @@ use Rattle.std.proofs.Common.{map}
 use Rattle.indexmap.specs.IndexSet.{keys}
 use Rattle.tib_tree.specs.Shape.{items_back}
 use Rattle.tib_tree.proofs.Growing.{grows_twice}
+use Rattle.tib_grammar_file.specs.Found.{text_at}
+use Rattle.tib_transducer_file.proofs.AddedLabels.{sides_add}
 use Rattle.tib_transducer_file.proofs.LinesRead.{variables_few, rule_made}
 use Rattle.tib_transducer_file.proofs.SideTrees.{right_few}
 use Rattle.tib_transducer_file.proofs.rules.build.Goals as goal
@@ -35,3 +37,10 @@ returns-clause-names g c = grows_twice _ _ _ c.read_name.ensures.grows c.right_n
 
 pub returns-in_err-nodes-clause-names : goal.returns-in_err-nodes-clause-names
 returns-in_err-nodes-clause-names g c = grows_twice _ _ _ c.read_name.ensures.grows c.right_nodes.ensures.names
+
+pub returns-clause-texts : goal.returns-clause-texts
+returns-clause-texts g c =
+    let left = items_back c.args.line.now c.args.left.now in
+    let right = items_back c.args.line.now c.args.right.now in
+    let weight = text_at c.args.line.now c.args.found.now.weight in
+    sides_add c.args.labels.now c.read_left.new.labels c.right_nodes.new.labels left right weight (c.in_ok-left.ensures.texts right weight) c.in_ok-nodes.ensures.texts

@@ -23,7 +23,7 @@ loop-line-init g c = record {
 
 pub returns-in-Err-clause-rules : goal.returns-in-Err-clause-rules
 returns-in-Err-clause-rules g c =
-    failed (IsRuleBy g.R.RightReader.view) (rule_grows_by g.R.RightReader.view) (rule_line_by g.R.RightReader.reads c.args.scale) c.args.names.now c.loop-line.names c.add_line.new.names c.loop-line.labels c.add_line.new.labels c.loop-line.rules.items c.add_line.new.rules.items c.loop-line.number c.loop-line.at c.in-Some.line c.line_bytes.result.now c.args.bytes.now _ c.in-Err.error _
+    failed (IsRuleBy g.R.RightReader.view) (rule_grows_by g.R.RightReader.view) (rule_line_by g.R.RightReader.reads c.args.scale) c.args.names.now c.loop-line.names c.add_line.new.names c.args.labels.now c.loop-line.labels c.add_line.new.labels c.loop-line.rules.items c.add_line.new.rules.items c.loop-line.number c.loop-line.at c.in-Some.line c.line_bytes.result.now c.args.bytes.now _ c.in-Err.error _
     c.in-Some.ensures.line c.line_bytes.ensures c.file_error.ensures c.in-Err.ensures.line c.loop-line.invariant.so_far
 
 pub loop-line-preserved : goal.loop-line-preserved
@@ -37,11 +37,11 @@ loop-line-preserved g c =
       number = omega (arith, i.number, next.goes_on);
       names = omega (arith, i.names, i.from, w, c.add_line.ensures.few_names);
       labels = omega (arith, i.labels, i.from, w, c.add_line.ensures.few_labels);
-      rules_few = omega (arith, i.rules_few, next.goes_on, one_more (IsRuleBy g.R.RightReader.view) (rule_grows_by g.R.RightReader.view) c.loop-line.names c.add_line.new.names c.add_line.new.labels c.loop-line.rules.items c.add_line.new.rules.items _ c.in-Ok.ensures.line);
+      rules_few = omega (arith, i.rules_few, next.goes_on, one_more (IsRuleBy g.R.RightReader.view) (rule_grows_by g.R.RightReader.view) c.loop-line.names c.add_line.new.names c.loop-line.labels c.add_line.new.labels c.loop-line.rules.items c.add_line.new.rules.items _ c.in-Ok.ensures.line);
       grows = grows_twice _ _ _ i.grows c.add_line.ensures.labels;
-      so_far = goes (IsRuleBy g.R.RightReader.view) (rule_grows_by g.R.RightReader.view) (rule_line_by g.R.RightReader.reads c.args.scale) c.args.names.now c.loop-line.names c.add_line.new.names c.loop-line.labels c.add_line.new.labels c.loop-line.rules.items c.add_line.new.rules.items c.loop-line.number c.loop-line.at c.in-Some.line c.args.bytes.now _
+      so_far = goes (IsRuleBy g.R.RightReader.view) (rule_grows_by g.R.RightReader.view) (rule_line_by g.R.RightReader.reads c.args.scale) c.args.names.now c.loop-line.names c.add_line.new.names c.args.labels.now c.loop-line.labels c.add_line.new.labels c.loop-line.rules.items c.add_line.new.rules.items c.loop-line.number c.loop-line.at c.in-Some.line c.args.bytes.now _
           next c.add_line.ensures.names c.add_line.ensures.labels
-          (subst (λ (text : List ℕ). AddsLine (IsRuleBy g.R.RightReader.view) c.loop-line.names c.add_line.new.names c.add_line.new.labels c.loop-line.rules.items c.add_line.new.rules.items (Ok tt) (rule_line_by g.R.RightReader.reads c.args.scale text)) c.line_bytes.ensures c.in-Ok.ensures.line) i.so_far;
+          (subst (λ (text : List ℕ). AddsLine (IsRuleBy g.R.RightReader.view) c.loop-line.names c.add_line.new.names c.loop-line.labels c.add_line.new.labels c.loop-line.rules.items c.add_line.new.rules.items (Ok tt) (rule_line_by g.R.RightReader.reads c.args.scale text)) c.line_bytes.ensures c.in-Ok.ensures.line) i.so_far;
     }
 
 pub add_line-requires-clause-plain : goal.add_line-requires-clause-plain
@@ -54,4 +54,4 @@ pub add_line-requires-clause-labels : goal.add_line-requires-clause-labels
 add_line-requires-clause-labels g c = omega (arith, c.requires.labels, c.loop-line.invariant.labels, c.loop-line.invariant.from, c.in-Some.ensures.line.ahead, text_within c.args.bytes.now c.loop-line.number c.loop-line.at c.in-Some.line c.line_bytes.result.now c.in-Some.ensures.line c.line_bytes.ensures)
 
 pub returns-clause-rules : goal.returns-clause-rules
-returns-clause-rules g c = ended (IsRuleBy g.R.RightReader.view) (rule_grows_by g.R.RightReader.view) (rule_line_by g.R.RightReader.reads c.args.scale) c.args.names.now c.loop-line.names c.loop-line.labels c.loop-line.rules.items c.loop-line.number c.loop-line.at c.args.bytes.now _ (c.in_default.ensures.none refl) c.loop-line.invariant.so_far
+returns-clause-rules g c = ended (IsRuleBy g.R.RightReader.view) (rule_grows_by g.R.RightReader.view) (rule_line_by g.R.RightReader.reads c.args.scale) c.args.names.now c.loop-line.names c.args.labels.now c.loop-line.labels c.loop-line.rules.items c.loop-line.number c.loop-line.at c.args.bytes.now _ (c.in_default.ensures.none refl) c.loop-line.invariant.so_far

@@ -15,7 +15,7 @@ invariant-loop-line g l = record {
   labels : length l.labels ≤ length l.fn.labels + (l.at - l.start);
   rules_few : length l.rules.items ≤ l.at;
   grows : Grows l.fn.labels l.labels;
-  so_far : SoFar (IsRuleBy g.R.RightReader.view) l.fn.names l.names l.labels l.rules.items (each_line (rule_line_by g.R.RightReader.reads l.scale) l.number (lines_of (drop l.at l.bytes))) (each_line (rule_line_by g.R.RightReader.reads l.scale) l.first (lines_of (drop l.start l.bytes)));
+  so_far : SoFar (IsRuleBy g.R.RightReader.view) l.fn.names l.names l.fn.labels l.labels l.rules.items (each_line (rule_line_by g.R.RightReader.reads l.scale) l.number (lines_of (drop l.at l.bytes))) (each_line (rule_line_by g.R.RightReader.reads l.scale) l.first (lines_of (drop l.start l.bytes)));
 }
 
 abbrev pub decreases-loop-line : goal.decreases-loop-line

@@ -4,6 +4,8 @@ use Rattle.indexmap.specs.IndexSet.{keys}
 use Rattle.tib_tree.proofs.Growing.{grows_twice}
 use Rattle.tib_transducer_file.specs.Forms.{pair_in}
 use Rattle.tib_transducer_file.specs.Rule.{is_unknown}
+use Rattle.tib_transducer_file.specs.Added.{on_right}
+use Rattle.tib_transducer_file.proofs.AddedLabels.{back_adds}
 use Rattle.tib_transducer_file.proofs.Backs.{none_at}
 use Rattle.tib_transducer_file.proofs.SidesRead.{placing_goes}
 use Rattle.tib_transducer_file.proofs.sides.right_nodes.Goals as goal
@@ -19,6 +21,7 @@ loop-i-preserved g c =
     record {
       placing = placing_goes c.args.names.now c.loop-i.names c.read_node.new.names c.loop-i.labels c.read_node.new.labels (keys c.args.variables.now) c.args.line.now c.args.places.now (map symbol_of c.loop-i.nodes.items) (map symbol_of c.push.new.self.items) c.loop-i.i _ (symbol_of c.in_ok-node.node)
           (omega (arith, c.loop-i-test.true)) r.names r.labels (ap (map symbol_of) c.in_ok-push.ensures.items ∙ map-append symbol_of c.loop-i.nodes.items (c.in_ok-node.node ∷ [])) c.in_ok-node.ensures.item c.in_ok-node.ensures.states i.placing;
+      texts = back_adds on_right c.args.labels.now c.loop-i.labels c.read_node.new.labels c.args.line.now c.args.places.now c.loop-i.i _ (omega (arith, c.loop-i-test.true)) i.placing.within i.texts c.in_ok-node.ensures.texts;
       names = grows_twice _ _ _ i.names r.names;
       labels = grows_twice _ _ _ i.labels r.labels;
       few_names = omega (arith, i.few_names, r.few_names, c.loop-i-test.true, i.placing.within);
