@@ -28,7 +28,7 @@ use Rattle.tib_transducer_file.specs.Found.{found_parts, FoundIn, FoundLies, par
 use Rattle.tib_transducer_file.specs.Value.{IsLeftNode, IsLeftSide, IsRightNode, IsRuleBy, IsViewed, RuleView, view_of}
 use Rattle.tib_transducer_file.specs.Built.{AreOneTree}
 use Rattle.tib_transducer_file.specs.Reader.{parts_found, FoundRuleBy, GoodRule, IsGood}
-use Rattle.tib_transducer_file.specs.declared.parts.Found.{Found}
+use Rattle.tib_transducer_file.specs.declared.parts.RootAndWeight.{RootAndWeight}
 use Rattle.tib_transducer_file.proofs.Backs.{back_long}
 use Rattle.tib_transducer_file.proofs.PartsFound.{pieces_long}
 use Rattle.tib_transducer_file.proofs.RulesRead.{spelled_back, rule_few}
@@ -37,7 +37,7 @@ use Rattle.tib_transducer_file.proofs.SideTrees.{root_grows}
 use Rattle.tib_transducer_file.specs.Formats.{IsFormat, tree_words}
 
 -- the parts are what was found
-pub items_whole : (line : List ℕ) (left right : List Place) (f : Found) → (l : FoundIn line left right f) → ((parts_found line left right f).root ∷ (parts_found line left right f).below ≡ items_back line left) × ((parts_found line left right f).right ≡ items_back line right) × ((parts_found line left right f).weight ≡ text_at line f.weight) × ((parts_found line left right f).root ≡ l.root)
+pub items_whole : (line : List ℕ) (left right : List Place) (f : RootAndWeight) → (l : FoundIn line left right f) → ((parts_found line left right f).root ∷ (parts_found line left right f).below ≡ items_back line left) × ((parts_found line left right f).right ≡ items_back line right) × ((parts_found line left right f).weight ≡ text_at line f.weight) × ((parts_found line left right f).root ≡ l.root)
 items_whole line left right f l =
     let e : parts_found line left right f ≡ parts_with (l.root ∷ l.below) (items_back line right) (text_at line f.weight) = ap (λ (is : List Item). parts_with is (items_back line right) (text_at line f.weight)) l.items in
     (ap (λ (p : Parts). p.root ∷ p.below) e ∙ sym l.items, ap (λ (p : Parts). p.right) e, ap (λ (p : Parts). p.weight) e, ap (λ (p : Parts). p.root) e)
@@ -60,14 +60,14 @@ module _ {Right : List Word → List Item → Type 0} {read : List Word → Opti
   some_line scale line (t ∷ ts) o e h p = rw (e, p) refl
 
   -- tokens that are no rule
-  pub no_rule_line : (scale : Scale) (line : List ℕ) (ts us : List Token) (left right : List Place) (o : Option Found) → pieces_of line ≡ Some (pieces_at line 0 ts) → 0 < length ts → us ≡ ts → parts_by read (pieces_at line 0 us) ≡ found_parts line left right o → o ≡ None → rule_line_by read scale line ≡ Err kinds.BadRule
+  pub no_rule_line : (scale : Scale) (line : List ℕ) (ts us : List Token) (left right : List Place) (o : Option RootAndWeight) → pieces_of line ≡ Some (pieces_at line 0 ts) → 0 < length ts → us ≡ ts → parts_by read (pieces_at line 0 us) ≡ found_parts line left right o → o ≡ None → rule_line_by read scale line ≡ Err kinds.BadRule
   no_rule_line scale line ts us left right o e h s p n =
       some_line scale line ts None e h (ap (λ (xs : List Token). parts_by read (pieces_at line 0 xs)) (sym s) ∙ p ∙ ap (found_parts line left right) n)
 
   -- tokens that are one, if what was found on the right holds of it
-  pub found_rule : (Holds : List ℕ → List Place → Type 0) (line : List ℕ) (ts us : List Token) (left right : List Place) (o : Option Found) (f : Found) → pieces_of line ≡ Some (pieces_at line 0 ts) → 0 < length ts → us ≡ ts → parts_by read (pieces_at line 0 us) ≡ found_parts line left right o → FoundLies line left right o → o ≡ Some f → ((l : FoundIn line left right f) → SpellsRuleBy Right (pieces_at line 0 ts) (parts_found line left right f) → Holds line right) → length ts ≤ length line → FoundRuleBy read Holds line left right f
+  pub found_rule : (Holds : List ℕ → List Place → Type 0) (line : List ℕ) (ts us : List Token) (left right : List Place) (o : Option RootAndWeight) (f : RootAndWeight) → pieces_of line ≡ Some (pieces_at line 0 ts) → 0 < length ts → us ≡ ts → parts_by read (pieces_at line 0 us) ≡ found_parts line left right o → FoundLies line left right o → o ≡ Some f → ((l : FoundIn line left right f) → SpellsRuleBy Right (pieces_at line 0 ts) (parts_found line left right f) → Holds line right) → length ts ≤ length line → FoundRuleBy read Holds line left right f
   found_rule Holds line ts us left right o f e h s p lies n holds few =
-      let l : FoundIn line left right f = subst (λ (x : Option Found). FoundLies line left right x) n lies in
+      let l : FoundIn line left right f = subst (λ (x : Option RootAndWeight). FoundLies line left right x) n lies in
       let parts : parts_by read (pieces_at line 0 ts) ≡ Some (parts_found line left right f) = ap (λ (xs : List Token). parts_by read (pieces_at line 0 xs)) (sym s) ∙ p ∙ ap (found_parts line left right) n in
       let spells = spelled_back format (pieces_at line 0 ts) (parts_found line left right f) parts in
       let w = items_whole line left right f l in
@@ -94,7 +94,7 @@ numbers_few (i ∷ is) = by (variable_in i) (numbers_few is)
     by (Some v) h = omega arith
 
 -- a rule has few variables
-pub variables_few : (scale : Scale) (line : List ℕ) (left right : List Place) (f : Found) (numbers : List ℕ) (cost : ℕ) → FoundIn line left right f → GoodRule scale (parts_found line left right f) numbers left right cost → length numbers ≤ 10000
+pub variables_few : (scale : Scale) (line : List ℕ) (left right : List Place) (f : RootAndWeight) (numbers : List ℕ) (cost : ℕ) → FoundIn line left right f → GoodRule scale (parts_found line left right f) numbers left right cost → length numbers ≤ 10000
 variables_few scale line left right f numbers cost l g =
     let w = items_whole line left right f l in
     omega (arith, ap length g.numbers_are, numbers_few (parts_found line left right f).below, ap length w.0, back_long line left, g.few_left)
@@ -106,7 +106,7 @@ left_side_grows a b g (s ∷ ss) p h = (root_grows a b g s _ p.root.kids h.0, al
 
 -- the rule of what was found, of whatever kind it is, by its parts; its state and its left side
 -- hold over larger tables
-pub rule_made : {R : Type 0} (view : R → RuleView) (rule : R) (n m a b : List (List ℕ)) (line : List ℕ) (left right : List Place) (f : Found) (numbers : List ℕ) (scale : Scale) (cost state : ℕ) (ls : Side ℕ Variable) (rs : List (Symbol ℕ (Pair ℕ) × ℕ)) → view rule ≡ view_of state ls rs cost → FoundIn line left right f → GoodRule scale (parts_found line left right f) numbers left right cost → Grows n m → Grows a b →
+pub rule_made : {R : Type 0} (view : R → RuleView) (rule : R) (n m a b : List (List ℕ)) (line : List ℕ) (left right : List Place) (f : RootAndWeight) (numbers : List ℕ) (scale : Scale) (cost state : ℕ) (ls : Side ℕ Variable) (rs : List (Symbol ℕ (Pair ℕ) × ℕ)) → view rule ≡ view_of state ls rs cost → FoundIn line left right f → GoodRule scale (parts_found line left right f) numbers left right cost → Grows n m → Grows a b →
     slice_get n state ≡ Some (text_of (word_at line f.root.state)) → ((right : List Item) (weight : Option (List ℕ)) → IsLeftSide a (preorder_of ls) (parts_with (items_back line left) right weight)) → AreNumbered 0 (variables_of ls) → Along (IsRightNode m b numbers) rs (items_back line right) →
     IsRuleBy view m b rule (rule_line_of (parts_found line left right f) cost)
 rule_made view rule n m a b line left right f numbers scale cost state ls rs seen l g names labels named side numbered are =

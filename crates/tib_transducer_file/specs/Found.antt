@@ -16,7 +16,7 @@ use Rattle.tib_transducer_file.specs.Rule.{Parts, parts, has_state, is_leaf, is_
 use Rattle.tib_transducer_file.specs.declared.forms.VariableToken.{VariableToken}
 use Rattle.tib_transducer_file.specs.declared.forms.PairToken.{PairToken}
 use Rattle.tib_transducer_file.specs.declared.forms.RootToken.{RootToken}
-use Rattle.tib_transducer_file.specs.declared.parts.Found.{Found}
+use Rattle.tib_transducer_file.specs.declared.parts.RootAndWeight.{RootAndWeight}
 
 -- the bytes of a token
 abbrev pub bytes_at : List ℕ → Token → List ℕ
@@ -44,12 +44,12 @@ abbrev pub parts_with : List Item → List Item → Option (List ℕ) → Parts
 parts_with [] right weight = parts no_item [] right weight
 parts_with (root ∷ below) right weight = parts root below right weight
 
-abbrev pub found_parts : List ℕ → List Place → List Place → Option Found → Option Parts
+abbrev pub found_parts : List ℕ → List Place → List Place → Option RootAndWeight → Option Parts
 found_parts line left right None = None
 found_parts line left right (Some f) = Some (parts_with (items_back line left) (items_back line right) (text_at line f.weight))
 
 -- what was found lies in its line, and the root's tokens are those of the first item
-pub record FoundIn (line : List ℕ) (left right : List Place) (f : Found) : Type 0 where
+pub record FoundIn (line : List ℕ) (left right : List Place) (f : RootAndWeight) : Type 0 where
   pub root : Item
   pub below : List Item
   pub items : items_back line left ≡ root ∷ below
@@ -58,7 +58,7 @@ pub record FoundIn (line : List ℕ) (left right : List Place) (f : Found) : Typ
   pub left_lie : All (PlaceLies (length line)) left
   pub right_lie : All (PlaceLies (length line)) right
 
-abbrev pub FoundLies : List ℕ → List Place → List Place → Option Found → Type 0
+abbrev pub FoundLies : List ℕ → List Place → List Place → Option RootAndWeight → Type 0
 FoundLies line left right None = Unit {0}
 FoundLies line left right (Some f) = FoundIn line left right f
 

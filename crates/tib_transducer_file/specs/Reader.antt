@@ -17,15 +17,15 @@ use Rattle.tib_transducer_file.specs.Rule.{Parts, has_unknown, numbers_in, check
 use Rattle.tib_transducer_file.specs.Found.{FoundIn, parts_with}
 use Rattle.tib_transducer_file.specs.Built.{AreOneTree}
 use Rattle.tib_transducer_file.specs.Value.{IsRightNode}
-use Rattle.tib_transducer_file.specs.declared.parts.Found.{Found}
+use Rattle.tib_transducer_file.specs.declared.parts.RootAndWeight.{RootAndWeight}
 
 -- the parts of a rule that was found
-abbrev pub parts_found : List ℕ → List Place → List Place → Found → Parts
+abbrev pub parts_found : List ℕ → List Place → List Place → RootAndWeight → Parts
 parts_found line left right f = parts_with (items_back line left) (items_back line right) (text_at line f.weight)
 
 -- the tokens of a line are a rule, and of the places of its right side this holds
 pub record FoundRuleBy (reads : List Word → Option (List Item)) (Holds : List ℕ → List Place → Type 0)
-    (line : List ℕ) (left right : List Place) (f : Found) : Type 0 where
+    (line : List ℕ) (left right : List Place) (f : RootAndWeight) : Type 0 where
   pub lies : FoundIn line left right f
   pub read : (scale : Scale) → rule_line_by reads scale line ≡ checked scale (parts_found line left right f)
   pub left_tree : AreOneTree (items_back line left)
@@ -34,7 +34,7 @@ pub record FoundRuleBy (reads : List Word → Option (List Item)) (Holds : List 
 
 -- a rule, or no tokens, or a fault
 abbrev pub IsFoundBy : (List Word → Option (List Item)) → (List ℕ → List Place → Type 0) →
-    List ℕ → List Place → List Place → Result (Option Found) LineError → Type 0
+    List ℕ → List Place → List Place → Result (Option RootAndWeight) LineError → Type 0
 IsFoundBy read Holds line left right (Ok None) = (scale : Scale) → rule_line_by read scale line ≡ Ok None
 IsFoundBy read Holds line left right (Ok (Some f)) = FoundRuleBy read Holds line left right f
 IsFoundBy read Holds line left right (Err (errors.Fault kind)) =
@@ -57,7 +57,7 @@ pub record IsWholeSide (IsWhole : List Item → Type 0) (symbols : List (Symbol 
 
 -- where something was found, this holds of its right side
 abbrev pub HoldsFound : (List ℕ → List Place → Type 0) →
-    List ℕ → List Place → Option Found → Type 0
+    List ℕ → List Place → Option RootAndWeight → Type 0
 HoldsFound Holds line right None = Unit {0}
 HoldsFound Holds line right (Some f) = Holds line right
 

@@ -27,7 +27,7 @@ use tib_tree::{Place, Reader};
 
 /// The tokens of a rule's root and of its weight.
 #[derive(Clone, Copy, Debug)]
-pub(crate) struct Found {
+pub(crate) struct RootAndWeight {
     pub root: RootToken,
     pub weight: Option<Token>,
 }
@@ -202,7 +202,7 @@ pub(crate) fn find_parts<R: RightReader>(
     words: &mut Vec<Token>,
     left: &mut Reader,
     right: &mut R,
-) -> Result<Option<Found>, AllocError>
+) -> Result<Option<RootAndWeight>, AllocError>
     requires few { length tokens.now < 2 ^ 32 - 1 }
     requires lie { All (Lies (length line.now)) tokens.now }
     ensures parts { IfOk result (λ found. parts_by R.reads (pieces_at line.now 0 tokens.now)
@@ -227,7 +227,7 @@ pub(crate) fn find_parts<R: RightReader>(
     if has_stray(line, right.places()) {
         return Ok(None);
     }
-    Ok(Some(Found { root, weight }))
+    Ok(Some(RootAndWeight { root, weight }))
 }
 
 // Whether the left side is a variable alone.

@@ -12,7 +12,7 @@ ghost use Rattle.tib_transducer_file.specs.Added.{AddsLabels};
 ghost use Rattle.tib_transducer_file.specs.Built.{AddsLine, AddsStates, AreFileRules};
 ghost use Rattle.tib_transducer_file.specs.Reader.{FoundRuleBy, GoodRule, IsFoundBy, IsGood, IsRightAt, parts_found};
 
-use crate::parts::{Found, check_variables, find_parts};
+use crate::parts::{RootAndWeight, check_variables, find_parts};
 use crate::pieces::read_pieces;
 use crate::right::RightReader;
 use crate::sides::{read_left, right_nodes};
@@ -41,7 +41,7 @@ fn build<R: RightReader>(
     line: &[u8],
     left: &[Place],
     right: &[Place],
-    found: &Found,
+    found: &RootAndWeight,
     cost: Cost,
     variables: &IndexSet<u32>,
     names: &mut Labels,
@@ -79,7 +79,7 @@ fn check(
     line: &[u8],
     left: &[Place],
     right: &[Place],
-    found: &Found,
+    found: &RootAndWeight,
     variables: &mut IndexSet<u32>,
     text: &mut Vec<u8>,
 ) -> Result<Cost, LineError>
@@ -118,7 +118,7 @@ impl<R: RightReader> RuleReader<R> {
     }
 
     /// What is found in a line, if it has tokens.
-    fn find(&mut self, line: &[u8]) -> Result<Option<Found>, LineError>
+    fn find(&mut self, line: &[u8]) -> Result<Option<RootAndWeight>, LineError>
         requires { length line.now ≤ most_bytes }
         ensures { IsFoundBy R.reads (IsRightAt R.is_whole R.is_node) line.now
             self.new.left.places.items (R.places_of self.new.right) result }
