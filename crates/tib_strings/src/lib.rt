@@ -72,14 +72,14 @@ impl<P> Model for Words<P> {
 }
 
 impl<P> Words<P> {
-    /// A right side of these words and pairs. It takes no memory.
+    /// A right side of these words and pairs. It takes no memory. Worst case: O(1) steps.
     pub fn from_list(items: Vec<Word<P>>) -> Words<P>
         ensures { result ≡ items.items }
     {
         Words { items }
     }
 
-    /// The words and pairs, in order. It takes no memory.
+    /// The words and pairs, in order. It takes no memory. Worst case: O(1) steps.
     pub fn tokens(&self) -> &[Word<P>]
         ensures { result.now ≡ self.now }
     {

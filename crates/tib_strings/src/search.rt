@@ -26,8 +26,8 @@ pub struct Cuts<'a> {
 
 impl<'a> Cuts<'a> {
     /// The search for the cuts of a list from one place of a string to another; none only where
-    /// there is no cut. Err only if memory is refused. Cost: for each token one step for each place
-    /// between the two.
+    /// there is no cut. Err only if memory is refused. Worst case: O(k n) steps for k tokens and
+    /// the n places between the two.
     pub fn new(
         alloc: Global,
         string: &'a [Label],
@@ -55,8 +55,8 @@ impl<'a> Cuts<'a> {
     }
 
     /// Goes on to the next cut, and returns whether there is one. Err only if memory is refused,
-    /// and then the search is of no further use. Cost: for each token one step, and for each pair
-    /// at most one for each word after it and each place between its own and its last one.
+    /// and then the search is of no further use. Worst case: for each token one step, and for each
+    /// pair one for each word after it and each place between its own and its last one.
     pub fn go_on(&mut self) -> Result<bool, AllocError>
         requires { IsSearch self.old }
         ensures { IfOk result (GoesTo self.old self.new) }
@@ -75,7 +75,7 @@ impl<'a> Cuts<'a> {
         )
     }
 
-    /// The places after the tokens in the current cut. It takes no memory.
+    /// The places after the tokens in the current cut. It takes no memory. Worst case: O(1) steps.
     pub fn places(&self) -> &[u32]
         ensures { result.now ≡ self.now.places.items }
     {

@@ -142,21 +142,21 @@ impl<S> StringTransducer<S> {
         let _ = &self.rules;
     }
 
-    /// How many states. It takes no memory.
+    /// How many states. It takes no memory. Worst case: O(1) steps.
     pub fn states(&self) -> u32
         ensures { result ≡ length self.now.names }
     {
         self.names.len()
     }
 
-    /// How many rules. It takes no memory.
+    /// How many rules. It takes no memory. Worst case: O(1) steps.
     pub fn rules(&self) -> u32
         ensures { result ≡ length self.now.rules }
     {
         self.rules.len() as u32
     }
 
-    /// The name of a state. It takes no memory.
+    /// The name of a state. It takes no memory. Worst case: O(1) steps.
     pub fn name(&self, state: u32) -> &[u8]
         requires { state < length self.now.names }
         ensures { slice_get self.now.names state ≡ Some result.now }
@@ -164,7 +164,8 @@ impl<S> StringTransducer<S> {
         self.names.text(state)
     }
 
-    /// The rule with this number, from 1 to the number of rules. It takes no memory.
+    /// The rule with this number, from 1 to the number of rules. It takes no memory. Worst case:
+    /// O(1) steps.
     pub fn rule(&self, n: u32) -> &StringRule<u32>
         requires from { 1 ≤ n }
         requires to { n ≤ length self.now.rules }
@@ -173,14 +174,14 @@ impl<S> StringTransducer<S> {
         &self.rules[n as usize - 1]
     }
 
-    /// The names of the states. It takes no memory.
+    /// The names of the states. It takes no memory. Worst case: O(1) steps.
     pub fn names(&self) -> &Names
         ensures { result.now ≡ self.now.names }
     {
         &self.names
     }
 
-    /// All rules, in order. It takes no memory.
+    /// All rules, in order. It takes no memory. Worst case: O(1) steps.
     pub fn rule_list(&self) -> &[StringRule<u32>]
         ensures { result.now ≡ self.now.rules }
     {
@@ -188,6 +189,7 @@ impl<S> StringTransducer<S> {
     }
 
     /// The names and the rules, for a transducer that is made from this one. It takes no memory.
+    /// Worst case: O(1) steps.
     pub fn into_parts(self) -> (Names, Vec<StringRule<u32>>)
         ensures names { result.0 ≡ self.names }
         ensures rules { result.1.items ≡ self.rules }

@@ -30,9 +30,11 @@ pub struct FileRules<T> {
 /// order in which they first occur in the file. The table of labels grows by just the texts of
 /// labels that are new, rule by rule: those of the left side and then those of the right side.
 ///
-/// A fault is the first of the file. After an error the table may hold texts of some labels of the
-/// file, and the texts that it held keep their numbers; `OutOfMemory` says nothing about the file.
-/// It takes time in proportion to the file.
+/// A fault names the first line that has one and what is wrong there first, as `read_transducer`
+/// lists them. A right side is bad where its reader refuses the tokens, and too large where it has
+/// more than 10,000 items. `OutOfMemory`, if memory is refused, says nothing about the file. After
+/// an error the table may hold texts of some labels of the file, and the texts that it held keep
+/// their numbers. Worst case: O(b) steps for b bytes, where a look-up by hash counts once.
 pub fn read_file<S: Semiring, R: RightReader>(
     alloc: Global,
     bytes: &[u8],

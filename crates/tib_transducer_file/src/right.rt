@@ -51,12 +51,12 @@ pub trait RightReader: Drop {
 
     ghost view: { Self.Rule → RuleView };
 
-    /// A reader that has read nothing. It takes no memory.
+    /// A reader that has read nothing. It takes no memory. Worst case: O(1) steps.
     fn new(alloc: Global) -> Self;
 
     /// Reads the tokens of a right side, if they are one. After false, and after an error, which
-    /// comes only if memory is refused, the reader can be used again. It takes time in proportion
-    /// to the tokens.
+    /// comes only if memory is refused, the reader can be used again. Worst case: O(n) steps for n
+    /// tokens.
     fn read_right(&mut self, line: &[u8], tokens: &[Token]) -> Result<bool, AllocError>
         requires few { length tokens.now < 2 ^ 32 - 1 }
         requires lie { All (Lies (length line.now)) tokens.now }
@@ -67,14 +67,16 @@ pub trait RightReader: Drop {
         ensures right { IfOk result (λ ok. IsTrue ok →
             IsRightAt is_whole is_node line.now (places_of self.new)) };
 
-    /// The places of what was read last, the last one first.
+    /// The places of what was read last, the last one first. It takes no memory. Worst case: O(1)
+    /// steps.
     fn places(&self) -> &[Place]
         ensures { result.now ≡ places_of self.now };
 
     /// A node of a right side: a pair, whose variable goes by its place among those of the left
     /// side, or a label or word. Their texts go into the tables, which keep the numbers of the
     /// texts that they held; `text` is room for the text of a quoted token. Err only if memory is
-    /// refused, and then each table has the texts that it had, or one more.
+    /// refused, and then each table has the texts that it had, or one more. Worst case: O(n) steps
+    /// for a token of n bytes, where a look-up by hash counts once.
     fn read_node(
         line: &[u8],
         place: Place,
@@ -102,8 +104,8 @@ pub trait RightReader: Drop {
         ensures few_names { length names.new ≤ length names.old + 1 }
         ensures few_labels { length labels.new ≤ length labels.old + 1 };
 
-    /// The rule of these parts, the nodes of its right side in order. It takes time in proportion
-    /// to them, and no memory.
+    /// The rule of these parts, the nodes of its right side in order. It takes no memory. Worst
+    /// case: O(n) steps for n nodes.
     fn rule(state: u32, left: Side<Variable>, nodes: Vec<Self::Node>, cost: Cost) -> Self::Rule
         requires few { length nodes.items ≤ most_nodes }
         requires whole { IsWholeSide is_whole (map symbol_of nodes.items) }

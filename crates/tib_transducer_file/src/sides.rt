@@ -213,8 +213,8 @@ fn place_of(variables: &IndexSet<u32>, number: u32) -> u32
 /// A node of a right side: a pair, whose variable goes by its place among those of the left side,
 /// or a label with its number of children. Their texts go into the tables, which keep the numbers
 /// of the texts that they held; `text` is room for the text of a quoted token. Err only if memory
-/// is refused, and then each table has the texts that it had, or one more. Cost: that of
-/// `intern_token`, and one look-up of a pair's variable by hash.
+/// is refused, and then each table has the texts that it had, or one more. Worst case: O(n) steps
+/// for a token of n bytes, where a look-up by hash counts once.
 pub fn right_item(
     line: &[u8],
     place: Place,

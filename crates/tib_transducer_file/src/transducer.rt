@@ -44,8 +44,8 @@ fn transducer_over<S: Semiring>(names: Names, rules: Vec<TransducerRule<u32>>) -
 /// bad token, a bad rule, a lone variable on the left, a variable twice on the left, an unknown
 /// variable on the right, a weight that isn't whole or is too large, a side with more than 10,000
 /// nodes. After an error the table may hold texts of some labels of the file, and the texts that it
-/// held keep their numbers; `OutOfMemory` says nothing about the file. It takes time in proportion
-/// to the file.
+/// held keep their numbers; `OutOfMemory` says nothing about the file. Worst case: O(b) steps for b
+/// bytes, where a look-up by hash counts once.
 pub fn read_transducer<S: Semiring>(
     alloc: Global,
     bytes: &[u8],
