@@ -18,6 +18,7 @@ use Rattle.tib_transducer_file.specs.Found.{FoundIn, parts_with}
 use Rattle.tib_transducer_file.specs.Built.{AreOneTree}
 use Rattle.tib_transducer_file.specs.Value.{IsRightNode}
 use Rattle.tib_transducer_file.specs.declared.parts.RootAndWeight.{RootAndWeight}
+use Rattle.tib_transducer_file.specs.declared.rules.RuleSource.{RuleSource}
 
 -- the parts of a rule that was found
 abbrev pub parts_found : List ℕ → List Place → List Place → RootAndWeight → Parts
@@ -73,3 +74,15 @@ abbrev pub IsGood : Scale → Parts → List ℕ → List Place → List Place �
 IsGood scale p numbers left right (Ok cost) = GoodRule scale p numbers left right cost
 IsGood scale p numbers left right (Err (errors.Fault kind)) = checked scale p ≡ Err kind
 IsGood scale p numbers left right (Err errors.OutOfMemory) = Unit {0}
+
+-- these of what was read of a line
+abbrev pub source_parts : RuleSource → Parts
+source_parts s = parts_found s.line.now s.left.now s.right.now s.found
+
+abbrev pub IsSourceBy : (List Word → Option (List Item)) → (List ℕ → List Place → Type 0) →
+    RuleSource → Type 0
+IsSourceBy reads Holds s = FoundRuleBy reads Holds s.line.now s.left.now s.right.now s.found
+
+abbrev pub IsGoodSource : Scale → RuleSource → List ℕ → ℕ → Type 0
+IsGoodSource scale s numbers cost =
+    GoodRule scale (source_parts s) numbers s.left.now s.right.now cost

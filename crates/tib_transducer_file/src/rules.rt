@@ -10,7 +10,7 @@ ghost use Rattle.tib_transducer_file.specs.Value.{IsRuleBy};
 ghost use Rattle.tib_transducer_file.specs.Found.{FoundIn};
 ghost use Rattle.tib_transducer_file.specs.Added.{AddsLabels};
 ghost use Rattle.tib_transducer_file.specs.Built.{AddsLine, AddsStates, AreFileRules};
-ghost use Rattle.tib_transducer_file.specs.Reader.{FoundRuleBy, GoodRule, IsFoundBy, IsGood, IsRightAt, parts_found};
+ghost use Rattle.tib_transducer_file.specs.Reader.{IsFoundBy, IsGood, IsGoodSource, IsRightAt, IsSourceBy, source_parts};
 
 use crate::parts::{RootAndWeight, check_variables, find_parts};
 use crate::pieces::read_pieces;
@@ -35,40 +35,45 @@ struct RuleReader<R> {
     pub alloc: Global,
 }
 
-// The rule of what was found in a line.
+// What was read of a rule line: the line, the places of both sides, the last one first, and the
+// tokens of the root and of the weight.
+#[derive(Drop)]
+struct RuleSource<'a> {
+    pub line: &'a [u8],
+    pub left: &'a [Place],
+    pub right: &'a [Place],
+    pub found: RootAndWeight,
+}
+
+// The rule of what was read of a line.
 fn build<R: RightReader>(
     alloc: Global,
-    line: &[u8],
-    left: &[Place],
-    right: &[Place],
-    found: &RootAndWeight,
+    source: &RuleSource<'_>,
     cost: Cost,
     variables: &IndexSet<u32>,
     names: &mut Labels,
     labels: &mut Labels,
     text: &mut Vec<u8>,
 ) -> Result<R::Rule, AllocError>
-    requires found { FoundRuleBy R.reads (IsRightAt R.is_whole R.is_node) line.now left.now
-        right.now found.now }
-    requires good { (scale : Scale) × GoodRule scale (parts_found line.now left.now right.now
-        found.now) (keys variables.now) left.now right.now cost }
-    requires plain { HasNoFeed line.now }
-    requires names { length names.old + length line.now < 2 ^ 32 - 1 }
-    requires labels { length labels.old + length line.now < 2 ^ 32 - 1 }
+    requires found { IsSourceBy R.reads (IsRightAt R.is_whole R.is_node) source.now }
+    requires good { (scale : Scale) × IsGoodSource scale source.now (keys variables.now) cost }
+    requires plain { HasNoFeed source.now.line.now }
+    requires names { length names.old + length source.now.line.now < 2 ^ 32 - 1 }
+    requires labels { length labels.old + length source.now.line.now < 2 ^ 32 - 1 }
     ensures rule { IfOk result (λ r. IsRuleBy R.view names.new labels.new r
-        (rule_line_of (parts_found line.now left.now right.now found.now) cost)) }
-    ensures adds { IfOk result (λ _. AddsStates names.old
-        (parts_found line.now left.now right.now found.now) names.new) }
-    ensures texts { IfOk result (λ _. AddsLabels labels.old
-        (parts_found line.now left.now right.now found.now) labels.new) }
+        (rule_line_of (source_parts source.now) cost)) }
+    ensures adds { IfOk result (λ _. AddsStates names.old (source_parts source.now) names.new) }
+    ensures texts { IfOk result (λ _. AddsLabels labels.old (source_parts source.now) labels.new) }
     ensures names { Grows names.old names.new }
     ensures labels { Grows labels.old labels.new }
-    ensures few_names { length names.new ≤ length names.old + length line.now }
-    ensures few_labels { length labels.new ≤ length labels.old + length line.now }
+    ensures few_names { length names.new ≤ length names.old + length source.now.line.now }
+    ensures few_labels { length labels.new ≤ length labels.old + length source.now.line.now }
 {
-    let state = read_name(line, found.root.state, names, text)?;
-    let left = read_left(alloc, line, left, found.root, labels, text)?;
-    let nodes = right_nodes::<R>(alloc, line, right, variables, names, labels, text)?;
+    let line = source.line;
+    let root = source.found.root;
+    let state = read_name(line, root.state, names, text)?;
+    let left = read_left(alloc, line, source.left, root, labels, text)?;
+    let nodes = right_nodes::<R>(alloc, line, source.right, variables, names, labels, text)?;
     Ok(R::rule(state, left, nodes, cost))
 }
 
@@ -76,29 +81,28 @@ fn build<R: RightReader>(
 // variables are those of its left side; else its first fault.
 fn check(
     scale: Scale,
-    line: &[u8],
-    left: &[Place],
-    right: &[Place],
-    found: &RootAndWeight,
+    source: &RuleSource<'_>,
     variables: &mut IndexSet<u32>,
     text: &mut Vec<u8>,
 ) -> Result<Cost, LineError>
-    requires { FoundIn line.now left.now right.now found.now }
-    ensures { IsGood scale (parts_found line.now left.now right.now found.now) (keys variables.new)
-        left.now right.now result }
+    requires { FoundIn source.now.line.now source.now.left.now source.now.right.now
+        source.now.found }
+    ensures { IsGood scale (source_parts source.now) (keys variables.new) source.now.left.now
+        source.now.right.now result }
 {
-    match check_variables(line, left, right, found.root, variables) {
+    let line = source.line;
+    match check_variables(line, source.left, source.right, source.found.root, variables) {
         Ok(()) => {}
         Err(error) => return Err(error),
     }
-    let cost = match read_cost(scale, line, found.weight, text) {
+    let cost = match read_cost(scale, line, source.found.weight, text) {
         Ok(cost) => cost,
         Err(error) => return Err(error),
     };
-    if left.len() > MOST_NODES {
+    if source.left.len() > MOST_NODES {
         return Err(LineError::Fault(FaultKind::TooManyNodes));
     }
-    if right.len() > MOST_NODES {
+    if source.right.len() > MOST_NODES {
         return Err(LineError::Fault(FaultKind::TooManyNodes));
     }
     Ok(cost)
@@ -166,24 +170,19 @@ impl<R: RightReader> RuleReader<R> {
             Ok(None) => return Ok(()),
             Err(error) => return Err(error),
         };
-        let cost = match check(
-            scale,
+        let source = RuleSource {
             line,
-            &self.left.places,
-            self.right.places(),
-            &found,
-            &mut self.variables,
-            &mut self.text,
-        ) {
+            left: &self.left.places,
+            right: self.right.places(),
+            found,
+        };
+        let cost = match check(scale, &source, &mut self.variables, &mut self.text) {
             Ok(cost) => cost,
             Err(error) => return Err(error),
         };
         let rule = build::<R>(
             self.alloc,
-            line,
-            &self.left.places,
-            self.right.places(),
-            &found,
+            &source,
             cost,
             &self.variables,
             names,
