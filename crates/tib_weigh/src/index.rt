@@ -13,7 +13,7 @@ ghost use Rattle.tib_tree.specs.Trees.{none};
 ghost use Rattle.tib_grammar.specs.Forms.{AreNormal};
 ghost use Rattle.tib_grammar.specs.Range.{AreInRange};
 
-use crate::found::Found;
+use crate::found::CostsByState;
 use crate::node::put_node_vector;
 use crate::table::Table;
 use crate::trying::try_table;
@@ -125,7 +125,7 @@ impl Shape {
         rules: &[Rule<u32>],
         rank: u32,
         stack: &[Vec<Entry>],
-        found: &mut Found,
+        found: &mut CostsByState,
         picked: &mut Vec<Entry>,
         vector: &mut Vec<Entry>,
     ) -> Result<(), AllocError>

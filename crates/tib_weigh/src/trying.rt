@@ -11,7 +11,7 @@ ghost use Rattle.tib_weigh.specs.Vectors.{vectors};
 ghost use Rattle.tib_weigh.specs.Worth.{times_beside, rest_worth, worth, HasTried, HasTriedAll, IsRemembered, AreSound};
 ghost use Rattle.tib_grammar.specs.Items.{state_in};
 
-use crate::found::Found;
+use crate::found::CostsByState;
 use crate::picking::pick;
 use crate::ready::Ready;
 use crate::table::Table;
@@ -104,7 +104,7 @@ fn product_with<S: Semiring>(cost: Cost, beside: Option<Cost>, own: Cost) -> Opt
 }
 
 // Lowers the cost at a state to this one, where there is one.
-fn lower(found: &mut Found, state: u32, cost: Option<Cost>) -> Result<(), AllocError>
+fn lower(found: &mut CostsByState, state: u32, cost: Option<Cost>) -> Result<(), AllocError>
     requires within { state < length found.old.costs.items }
     requires noted { IsNoted found.old }
     ensures noted { IfOk result (λ _. IsNoted found.new) }
@@ -120,7 +120,7 @@ fn lower(found: &mut Found, state: u32, cost: Option<Cost>) -> Result<(), AllocE
 
 // Tries the rules of a slot for the state of an entry of the vector at the child place.
 fn try_slot<S: Semiring>(
-    found: &mut Found,
+    found: &mut CostsByState,
     last: &mut Rest,
     ready: &[Ready],
     entry: &Entry,
@@ -158,7 +158,7 @@ fn try_slot<S: Semiring>(
 // separately from its callers, so that what its loop needs stays in registers.
 #[inline(never)]
 fn try_entries<S: Semiring>(
-    found: &mut Found,
+    found: &mut CostsByState,
     table: &Table,
     entries: &[Entry],
     rules: &[Rule<u32>],
@@ -193,7 +193,7 @@ fn try_entries<S: Semiring>(
 /// Tries the rules of a table at a child place that the vector there serves. The list lends its
 /// room only: what it holds is ignored.
 pub(crate) fn try_table<S: Semiring>(
-    found: &mut Found,
+    found: &mut CostsByState,
     picked: &mut Vec<Entry>,
     table: &Table,
     rules: &[Rule<u32>],

@@ -9,7 +9,7 @@ ghost use Rattle.tib_weigh.specs.Found.{IsBlank};
 ghost use Rattle.tib_weigh.specs.Shapes.{IsIndex};
 ghost use Rattle.tib_weigh.specs.Vectors.{vectors, IsNodeVector};
 
-use crate::found::Found;
+use crate::found::CostsByState;
 use crate::index::Index;
 use crate::node::put_node_vector;
 use crate::pieces::{LEAST_PIECE, halvings, middle_of, nodes_of};
@@ -24,7 +24,7 @@ use tib_tree::{Label, Tree};
 // that no tree needs any more.
 #[derive(Drop)]
 struct Room {
-    found: Found,
+    found: CostsByState,
     picked: Vec<Entry>,
     spare: Vec<Vec<Entry>>,
 }
@@ -36,7 +36,7 @@ impl Room {
         ensures long { IfOk result (λ r. length r.found.costs.items ≡ states) }
     {
         Ok(Room {
-            found: Found::new(alloc, states)?,
+            found: CostsByState::new(alloc, states)?,
             picked: Vec::new(alloc),
             spare: Vec::new(alloc),
         })
@@ -74,7 +74,7 @@ impl Room {
 fn put_vector_at<S: Semiring>(
     normal: &Normal<S>,
     index: &Index,
-    found: &mut Found,
+    found: &mut CostsByState,
     picked: &mut Vec<Entry>,
     label: Label,
     rank: u32,

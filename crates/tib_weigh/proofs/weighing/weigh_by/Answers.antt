@@ -3,7 +3,7 @@ use Rattle.tib_tree.specs.Trees.{parse}
 use Rattle.tib_tree.specs.Pairs.{pairs_of}
 use Rattle.tib_weigh.specs.Entries.{IsAscending}
 use Rattle.tib_weigh.specs.Found.{IsBlank}
-use Rattle.tib_weigh.specs.declared.found.Found.{Found}
+use Rattle.tib_weigh.specs.declared.found.CostsByState.{CostsByState}
 use Rattle.tib_weigh.specs.Vectors.{vectors}
 use Rattle.tib_weigh.proofs.Walk.{on_stack, step_left, last_vector, ascending-Weighed}
 use Rattle.tib_weigh.proofs.weighing.weigh_by.Goals as goal
@@ -24,7 +24,7 @@ pub loop-i-preserved : goal.loop-i-preserved
 loop-i-preserved g c = record {
   within = omega arith;
   blank = subst IsBlank (sym c.in_ok-keep.ensures.found) c.in_ok-put_vector_at.ensures.blank;
-  long = subst (λ (f : Found). length f.costs.items ≡ length c.args.normal.now.names) (sym c.in_ok-keep.ensures.found) c.in_ok-put_vector_at.ensures.long;
+  long = subst (λ (f : CostsByState). length f.costs.items ≡ length c.args.normal.now.names) (sym c.in_ok-keep.ensures.found) c.in_ok-put_vector_at.ensures.long;
   weighed = rw (c.in_ok-push.ensures.items, c.in_ok-keep.ensures.stack, c.loop-i.stack.ok.0) (
       step_left g.S.Semiring.product c.args.normal.now.rules c.nodes-nodes.result.now c.args.tree.now c.nodes-nodes.ensures.pairs c.loop-i.i
       c.loop-i.stack.items c.put_vector_at.new.vector c.loop-i-test.true c.loop-i.invariant.within c.loop-i.invariant.weighed
