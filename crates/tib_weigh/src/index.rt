@@ -16,7 +16,7 @@ ghost use Rattle.tib_grammar.specs.Range.{AreInRange};
 use crate::found::CostsByState;
 use crate::node::put_node_vector;
 use crate::table::Table;
-use crate::trying::try_table;
+use crate::trying::{ChildPlace, try_table};
 use crate::vector::Entry;
 use std::alloc::{AllocError, Global};
 use std::collections::HashMap;
@@ -146,15 +146,13 @@ impl Shape {
             ≡ length found.old.costs.items) }
     {
         let place = self.best_place(stack);
-        try_table::<S>(
-            found,
-            picked,
-            &self.tables[place],
+        let at = ChildPlace {
             rules,
             stack,
             place,
             rank,
-        )?;
+        };
+        try_table::<S>(found, picked, &self.tables[place], at)?;
         found.move_into(vector)
     }
 }

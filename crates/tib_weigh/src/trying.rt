@@ -23,6 +23,16 @@ use tib_grammar::{Item, Rule};
 // The fewest entries of a vector for which those with rules are collected first.
 const LEAST_PICKED: usize = 16;
 
+/// A child place of a node, with what it takes to try a rule there: the rules of the grammar, the
+/// vectors of trees, of which the last are those of the children, and the number of children.
+#[derive(Clone, Copy)]
+pub(crate) struct ChildPlace<'a> {
+    pub rules: &'a [Rule<u32>],
+    pub stack: &'a [Vec<Entry>],
+    pub place: usize,
+    pub rank: u32,
+}
+
 /// The product of the costs at all child places but one, for the states below the rule at a
 /// position.
 #[derive(Drop)]
@@ -63,29 +73,27 @@ fn product_beside<S: Semiring>(
 
 // Finds the product beside the child place for the rule at a position, where it is not the one that
 // is known.
-fn recall<S: Semiring>(
-    last: &mut Rest,
-    rules: &[Rule<u32>],
-    stack: &[Vec<Entry>],
-    place: usize,
-    rank: u32,
-    position: u32,
-)
-    requires normal { AreNormal rules.now }
-    requires rule { IsRuleOver rules.now rank position }
-    requires enough { rank ≤ length stack.now }
-    requires ascend { Each IsAscending (vectors stack.now) }
-    requires last { IsRemembered S.product rules.now place (vectors stack.now) last.old }
-    ensures last { IsRemembered S.product rules.now place (vectors stack.now) last.new }
-    ensures cost { last.new.cost ≡ rest_worth S.product rules.now place (vectors stack.now)
-        position }
+fn recall<S: Semiring>(last: &mut Rest, at: ChildPlace, position: u32)
+    requires normal { AreNormal at.rules.now }
+    requires rule { IsRuleOver at.rules.now at.rank position }
+    requires enough { at.rank ≤ length at.stack.now }
+    requires ascend { Each IsAscending (vectors at.stack.now) }
+    requires last { IsRemembered S.product at.rules.now at.place (vectors at.stack.now) last.old }
+    ensures last { IsRemembered S.product at.entry.rules.now at.entry.place
+        (vectors at.entry.stack.now) last.new }
+    ensures cost { last.new.cost ≡ rest_worth S.product at.entry.rules.now at.entry.place
+        (vectors at.entry.stack.now) position }
 {
     if let Some(known) = last.position {
         if known == position {
             return;
         }
     }
-    let cost = product_beside::<S>(rules[position as usize].states_below(), stack, place);
+    let cost = product_beside::<S>(
+        at.rules[position as usize].states_below(),
+        at.stack,
+        at.place,
+    );
     last.cost = cost;
     last.position = Some(position);
 }
@@ -124,30 +132,29 @@ fn try_slot<S: Semiring>(
     last: &mut Rest,
     ready: &[Ready],
     entry: &Entry,
-    rules: &[Rule<u32>],
-    stack: &[Vec<Entry>],
-    place: usize,
-    rank: u32,
+    at: ChildPlace,
 ) -> Result<(), AllocError>
-    requires normal { AreNormal rules.now }
-    requires sound { AreSound rules.now rank (length found.old.costs.items) ready.now }
-    requires enough { rank ≤ length stack.now }
-    requires ascend { Each IsAscending (vectors stack.now) }
-    requires here { cost_in (get_or (vectors stack.now) place []) entry.now.state
+    requires normal { AreNormal at.rules.now }
+    requires sound { AreSound at.rules.now at.rank (length found.old.costs.items) ready.now }
+    requires enough { at.rank ≤ length at.stack.now }
+    requires ascend { Each IsAscending (vectors at.stack.now) }
+    requires here { cost_in (get_or (vectors at.stack.now) at.place []) entry.now.state
         ≡ Some entry.now.cost }
-    requires last { IsRemembered S.product rules.now place (vectors stack.now) last.old }
+    requires last { IsRemembered S.product at.rules.now at.place (vectors at.stack.now) last.old }
     requires noted { IsNoted found.old }
-    ensures last { IsRemembered S.product rules.now place (vectors stack.now) last.new }
+    ensures last { IsRemembered S.product at.entry.rules.now at.entry.place
+        (vectors at.entry.stack.now) last.new }
     ensures noted { IfOk result (λ _. IsNoted found.new) }
     ensures long { IfOk result (λ _. length found.new.costs.items ≡ length found.old.costs.items) }
-    ensures tried { IfOk result (λ _. HasTried (worth S.product rules.now place (vectors stack.now))
-        entry.now.state ready.now (cost_of found.old) (cost_of found.new)) }
+    ensures tried { IfOk result (λ _. HasTried (worth S.product at.entry.rules.now at.entry.place
+        (vectors at.entry.stack.now)) entry.now.state ready.now (cost_of found.old)
+        (cost_of found.new)) }
 {
     for record in ready {
         if record.state != entry.state {
             continue;
         }
-        recall::<S>(last, rules, stack, place, rank, record.rest);
+        recall::<S>(last, at, record.rest);
         let cost = product_with::<S>(entry.cost, last.cost, record.cost);
         lower(found, record.left, cost)?;
     }
@@ -161,23 +168,20 @@ fn try_entries<S: Semiring>(
     found: &mut CostsByState,
     table: &Table,
     entries: &[Entry],
-    rules: &[Rule<u32>],
-    stack: &[Vec<Entry>],
-    place: usize,
-    rank: u32,
+    at: ChildPlace,
 ) -> Result<(), AllocError>
-    requires normal { AreNormal rules.now }
-    requires sound { (q : ℕ) → AreSound rules.now rank (length found.old.costs.items)
+    requires normal { AreNormal at.rules.now }
+    requires sound { (q : ℕ) → AreSound at.rules.now at.rank (length found.old.costs.items)
         (bucket table.now q) }
     requires here { (e : Entry) → Has entries.now e →
-        cost_in (get_or (vectors stack.now) place []) e.state ≡ Some e.cost }
-    requires enough { rank ≤ length stack.now }
-    requires ascend { Each IsAscending (vectors stack.now) }
+        cost_in (get_or (vectors at.stack.now) at.place []) e.state ≡ Some e.cost }
+    requires enough { at.rank ≤ length at.stack.now }
+    requires ascend { Each IsAscending (vectors at.stack.now) }
     requires blank { IsBlank found.old }
     ensures noted { IfOk result (λ _. IsNoted found.new) }
     ensures long { IfOk result (λ _. length found.new.costs.items ≡ length found.old.costs.items) }
-    ensures tried { IfOk result (λ _. HasTriedAll (worth S.product rules.now place
-        (vectors stack.now)) entries.now (bucket table.now) (cost_of found.new)) }
+    ensures tried { IfOk result (λ _. HasTriedAll (worth S.product at.entry.rules.now at.entry.place
+        (vectors at.entry.stack.now)) entries.now (bucket table.now) (cost_of found.new)) }
 {
     let mut last = Rest {
         position: None,
@@ -185,7 +189,7 @@ fn try_entries<S: Semiring>(
     };
     for entry in entries {
         let ready = table.at(entry.state);
-        try_slot::<S>(found, &mut last, ready, entry, rules, stack, place, rank)?;
+        try_slot::<S>(found, &mut last, ready, entry, at)?;
     }
     Ok(())
 }
@@ -196,28 +200,25 @@ pub(crate) fn try_table<S: Semiring>(
     found: &mut CostsByState,
     picked: &mut Vec<Entry>,
     table: &Table,
-    rules: &[Rule<u32>],
-    stack: &[Vec<Entry>],
-    place: usize,
-    rank: u32,
+    at: ChildPlace,
 ) -> Result<(), AllocError>
-    requires normal { AreNormal rules.now }
-    requires sound { (q : ℕ) → AreSound rules.now rank (length found.old.costs.items)
+    requires normal { AreNormal at.rules.now }
+    requires sound { (q : ℕ) → AreSound at.rules.now at.rank (length found.old.costs.items)
         (bucket table.now q) }
-    requires within { place < rank }
-    requires enough { rank ≤ length stack.now }
-    requires ascend { Each IsAscending (vectors stack.now) }
+    requires within { at.place < at.rank }
+    requires enough { at.rank ≤ length at.stack.now }
+    requires ascend { Each IsAscending (vectors at.stack.now) }
     requires blank { IsBlank found.old }
     ensures noted { IfOk result (λ _. IsNoted found.new) }
     ensures long { IfOk result (λ _. length found.new.costs.items ≡ length found.old.costs.items) }
-    ensures tried { IfOk result (λ _. HasTriedAll (worth S.product rules.now place
-        (vectors stack.now)) (get_or (vectors stack.now) place []) (bucket table.now)
-        (cost_of found.new)) }
+    ensures tried { IfOk result (λ _. HasTriedAll (worth S.product at.entry.rules.now at.entry.place
+        (vectors at.entry.stack.now)) (get_or (vectors at.entry.stack.now) at.entry.place [])
+        (bucket table.now) (cost_of found.new)) }
 {
-    let vector = &stack[stack.len() - 1 - place];
+    let vector = &at.stack[at.stack.len() - 1 - at.place];
     if vector.len() < LEAST_PICKED || !table.is_sparse() {
-        return try_entries::<S>(found, table, vector, rules, stack, place, rank);
+        return try_entries::<S>(found, table, vector, at);
     }
     let many = pick(table, vector, picked)?;
-    try_entries::<S>(found, table, &picked[..many], rules, stack, place, rank)
+    try_entries::<S>(found, table, &picked[..many], at)
 }

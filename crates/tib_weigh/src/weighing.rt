@@ -18,7 +18,7 @@ use std::alloc::{AllocError, Global};
 use std::thread::{Threads, join};
 use tib_cost::{Cost, Semiring};
 use tib_normal::Normal;
-use tib_tree::{Label, Tree};
+use tib_tree::{Node, Tree};
 
 // What is reused from node to node: the costs by state, the entries that are tried, and vectors
 // that no tree needs any more.
@@ -74,35 +74,40 @@ impl Room {
 fn put_vector_at<S: Semiring>(
     normal: &Normal<S>,
     index: &Index,
-    found: &mut CostsByState,
-    picked: &mut Vec<Entry>,
-    label: Label,
-    rank: u32,
+    room: &mut Room,
+    node: &Node,
     stack: &[Vec<Entry>],
     vector: &mut Vec<Entry>,
 ) -> Result<(), AllocError>
     requires index { IsIndex S.product normal.now.rules index.now }
-    requires enough { rank ≤ length stack.now }
+    requires enough { node.now.rank ≤ length stack.now }
     requires ascend { Each IsAscending (vectors stack.now) }
-    requires blank { IsBlank found.old }
-    requires long { length found.old.costs.items ≡ length normal.now.names }
+    requires blank { IsBlank room.old.found }
+    requires long { length room.old.found.costs.items ≡ length normal.now.names }
     requires empty { vector.old.items ≡ [] }
-    ensures vector { IfOk result (λ _. IsNodeVector S.product normal.now.rules label rank
-        (vectors stack.now) vector.new.items) }
-    ensures blank { IfOk result (λ _. IsBlank found.new) }
-    ensures long { IfOk result (λ _. length found.new.costs.items ≡ length normal.now.names) }
+    ensures vector { IfOk result (λ _. IsNodeVector S.product normal.now.rules node.now.label
+        node.now.rank (vectors stack.now) vector.new.items) }
+    ensures blank { IfOk result (λ _. IsBlank room.new.found) }
+    ensures long { IfOk result (λ _. length room.new.found.costs.items ≡ length normal.now.names) }
 {
     let grammar = normal.grammar();
     grammar.is_sound();
     let rules = grammar.rule_list();
-    let Some(shape) = index.find(label, rank) else {
-        let positions = normal.rules_with(label, rank);
-        return put_node_vector::<S>(rules, positions, label, rank, stack, vector);
+    let Some(shape) = index.find(node.label, node.rank) else {
+        let positions = normal.rules_with(node.label, node.rank);
+        return put_node_vector::<S>(rules, positions, node.label, node.rank, stack, vector);
     };
-    if rank == 0 {
+    if node.rank == 0 {
         return vector.extend_from_slice(shape.leaf());
     }
-    shape.put_vector::<S>(rules, rank, stack, found, picked, vector)
+    shape.put_vector::<S>(
+        rules,
+        node.rank,
+        stack,
+        &mut room.found,
+        &mut room.picked,
+        vector,
+    )
 }
 
 // The cost of a tree, with an index of the rules, which may lack some or all of them. In a
@@ -126,18 +131,9 @@ fn weigh_by<S: Semiring>(
     let mut i = nodes.len();
     while i > 0 {
         i -= 1;
-        let node = nodes[i];
+        let node = &nodes[i];
         let mut vector = room.vector(alloc);
-        put_vector_at::<S>(
-            normal,
-            index,
-            &mut room.found,
-            &mut room.picked,
-            node.label,
-            node.rank,
-            &stack,
-            &mut vector,
-        )?;
+        put_vector_at::<S>(normal, index, room, node, &stack, &mut vector)?;
         room.keep(&mut stack, node.rank)?;
         stack.push(vector)?;
     }

@@ -13,9 +13,9 @@ loop-record-preserved-then-record-entry g c = record {
   last = c.loop-record.invariant.last;
   noted = c.loop-record.invariant.noted;
   long = c.loop-record.invariant.long;
-  tried = taken (λ rs. HasTried (worth g.S.Semiring.product c.args.rules.now c.args.place (vectors c.args.stack.now)) c.args.entry.now.state rs (cost_of c.args.found.now) (cost_of c.loop-record.found))
+  tried = taken (λ rs. HasTried (worth g.S.Semiring.product c.args.at.rules.now c.args.at.place (vectors c.args.at.stack.now)) c.args.entry.now.state rs (cost_of c.args.found.now) (cost_of c.loop-record.found))
       c.args.ready.now c.loop-record.record-index c.record-item.result c.loop-record-test.true c.record-item.is
-      (tried_past (worth g.S.Semiring.product c.args.rules.now c.args.place (vectors c.args.stack.now)) c.args.entry.now.state (take c.loop-record.record-index c.args.ready.now) c.record-item.result
+      (tried_past (worth g.S.Semiring.product c.args.at.rules.now c.args.at.place (vectors c.args.at.stack.now)) c.args.entry.now.state (take c.loop-record.record-index c.args.ready.now) c.record-item.result
       (cost_of c.args.found.now) (cost_of c.loop-record.found) (λ e. absurd (omega (arith, e, c.if-record-entry.true))) c.loop-record.invariant.tried);
 }
 
@@ -30,15 +30,15 @@ lower-requires-clause-within g c =
 pub loop-record-preserved : goal.loop-record-preserved
 loop-record-preserved g c =
     let r = c.record-item.result in
-    let vs = vectors c.args.stack.now in
+    let vs = vectors c.args.at.stack.now in
     let e = c.args.entry.now in
-    let value = worth g.S.Semiring.product c.args.rules.now c.args.place vs in
+    let value = worth g.S.Semiring.product c.args.at.rules.now c.args.at.place vs in
     let same : r.state ≡ e.state = omega (arith, c.if-record-entry.false) in
-    let here : cost_in (get_or vs c.args.place []) r.state ≡ Some e.cost = ap (cost_in (get_or vs c.args.place [])) same ∙ c.requires.here in
+    let here : cost_in (get_or vs c.args.at.place []) r.state ≡ Some e.cost = ap (cost_in (get_or vs c.args.at.place [])) same ∙ c.requires.here in
     let is : c.product_with-cost.result ≡ value r =
     c.product_with-cost.ensures
     ∙ ap (λ (x : Option ℕ). times g.S.Semiring.product (times g.S.Semiring.product (Some e.cost) x) (Some r.cost)) c.recall.ensures.cost
-    ∙ ap (λ (x : Option ℕ). times g.S.Semiring.product (times g.S.Semiring.product x (rest_worth g.S.Semiring.product c.args.rules.now c.args.place vs r.rest)) (Some r.cost)) (sym here)
+    ∙ ap (λ (x : Option ℕ). times g.S.Semiring.product (times g.S.Semiring.product x (rest_worth g.S.Semiring.product c.args.at.rules.now c.args.at.place vs r.rest)) (Some r.cost)) (sym here)
     in
     record {
       last = c.recall.ensures.last;

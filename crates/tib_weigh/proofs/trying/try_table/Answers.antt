@@ -1,5 +1,4 @@
 use Rattle.std.proofs.Common.{arith, ◌≡◌, List, [], get_or, take, ap, sym, ◌∙◌, subst}
-use Rattle.std.specs.Global.{Vec}
 use Rattle.tib_lex.specs.Lists.{Has}
 use Rattle.tib_weigh.specs.declared.vector.Entry.{Entry}
 use Rattle.tib_weigh.specs.Found.{cost_of}
@@ -15,31 +14,27 @@ use Rattle.tib_weigh.proofs.trying.try_table.Given.{Over}
 use Rattle.tib_weigh.proofs.trying.try_table.Goals as goal
 
 -- what is tried is picked of the vector at the child place
-picked : (g : Over) (c : After-deref-3 g) → take c.in_ok-many.many c.deref-3.result.now ≡ picks c.args.table.now (get_or (vectors c.args.stack.now) c.args.place [])
+picked : (g : Over) (c : After-deref-3 g) → take c.in_ok-many.many c.deref-3.result.now ≡ picks c.args.table.now (get_or (vectors c.args.at.stack.now) c.args.at.place [])
 picked g c =
-    let at : get_or (vectors c.args.stack.now) c.args.place [] ≡ c.index-stack-stack.result.items =
-    vector_at c.args.stack.now c.args.place c.index-stack-stack.result (omega (arith, c.requires.within, c.requires.enough)) ∙ ap (λ (v : Vec Entry). v.items) (sym c.index-stack-stack.is)
-    in
-    ap (λ (l : List Entry). take c.in_ok-many.many l) c.deref-3.ensures.value ∙ c.in_ok-many.ensures.picked ∙ ap (picks c.args.table.now) (c.deref-2.ensures.value ∙ sym at)
+    let here = vector_at c.args.at.stack.now c.args.at.place c.index-at-at.result (omega (arith, c.requires.within, c.requires.enough)) in
+    ap (λ (l : List Entry). take c.in_ok-many.many l) c.deref-3.ensures.value ∙ c.in_ok-many.ensures.picked ∙ ap (picks c.args.table.now) (c.deref-2.ensures.value ∙ sym here)
 
 pub try_entries-requires-clause-here : goal.try_entries-requires-clause-here
 try_entries-requires-clause-here g c e h =
-    let at : get_or (vectors c.args.stack.now) c.args.place [] ≡ c.index-stack-stack.result.items =
-    vector_at c.args.stack.now c.args.place c.index-stack-stack.result (omega (arith, c.requires.within, c.requires.enough)) ∙ ap (λ (v : Vec Entry). v.items) (sym c.index-stack-stack.is)
-    in
-    cost_of_member (get_or (vectors c.args.stack.now) c.args.place []) e
-    (ascending_at (vectors c.args.stack.now) c.args.place c.requires.ascend (omega (arith, c.requires.within, c.requires.enough, length-vectors c.args.stack.now)))
-    (subst (λ (l : List Entry). Has l e) (c.deref.ensures.value ∙ sym at) h)
+    let here = vector_at c.args.at.stack.now c.args.at.place c.index-at-at.result (omega (arith, c.requires.within, c.requires.enough)) in
+    cost_of_member (get_or (vectors c.args.at.stack.now) c.args.at.place []) e
+    (ascending_at (vectors c.args.at.stack.now) c.args.at.place c.requires.ascend (omega (arith, c.requires.within, c.requires.enough, length-vectors c.args.at.stack.now)))
+    (subst (λ (l : List Entry). Has l e) (c.deref.ensures.value ∙ sym here) h)
 
 pub try_entries-requires-2-clause-here : goal.try_entries-requires-2-clause-here
 try_entries-requires-2-clause-here g c e h =
-    cost_of_member (get_or (vectors c.args.stack.now) c.args.place []) e
-    (ascending_at (vectors c.args.stack.now) c.args.place c.requires.ascend (omega (arith, c.requires.within, c.requires.enough, length-vectors c.args.stack.now)))
-    (picked_has c.args.table.now (get_or (vectors c.args.stack.now) c.args.place []) e (subst (λ (l : List Entry). Has l e) (picked g c) h))
+    cost_of_member (get_or (vectors c.args.at.stack.now) c.args.at.place []) e
+    (ascending_at (vectors c.args.at.stack.now) c.args.at.place c.requires.ascend (omega (arith, c.requires.within, c.requires.enough, length-vectors c.args.at.stack.now)))
+    (picked_has c.args.table.now (get_or (vectors c.args.at.stack.now) c.args.at.place []) e (subst (λ (l : List Entry). Has l e) (picked g c) h))
 
 pub returns-clause-tried : goal.returns-clause-tried
 returns-clause-tried g c =
     ok_then _ _ c.try_entries-2.result c.try_entries-2.ensures.tried (λ x tried.
-    let value = worth g.S.Semiring.product c.args.rules.now c.args.place (vectors c.args.stack.now) in
-    all_picked value c.args.table.now (get_or (vectors c.args.stack.now) c.args.place []) (cost_of c.try_entries-2.new.found)
+    let value = worth g.S.Semiring.product c.args.at.rules.now c.args.at.place (vectors c.args.at.stack.now) in
+    all_picked value c.args.table.now (get_or (vectors c.args.at.stack.now) c.args.at.place []) (cost_of c.try_entries-2.new.found)
     (subst (λ (l : List Entry). HasTriedAll value l (bucket c.args.table.now) (cost_of c.try_entries-2.new.found)) (picked g c.before) tried))
