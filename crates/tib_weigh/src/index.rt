@@ -93,7 +93,7 @@ impl Shape {
         Ok(Shape { tables, leaf })
     }
 
-    /// The vector of a leaf.
+    /// The vector of a leaf. It takes a step.
     pub(crate) fn leaf(&self) -> &[Entry]
         ensures { result.now ≡ self.now.leaf.items }
     {
@@ -119,7 +119,9 @@ impl Shape {
     }
 
     /// Puts the vector of a node with children over the trees on top of the stack into an empty
-    /// one. Only the rules are tried that one child can serve.
+    /// one. Only the rules are tried that one child can serve. Err only if memory is refused; the
+    /// costs found and the vector then hold some of the costs. Worst case: O(r k log s + s) steps
+    /// for r rules of this label and rank k over s states.
     pub(crate) fn put_vector<S: Semiring>(
         &self,
         rules: &[Rule<u32>],
@@ -164,7 +166,7 @@ pub(crate) struct Index {
 }
 
 impl Index {
-    /// The empty index.
+    /// The empty index. It takes no memory.
     pub(crate) fn empty(alloc: Global) -> Index
         ensures { (product : ℕ → ℕ → ℕ) → (rules : List (Rule ℕ)) → IsIndex product rules result }
     {
@@ -192,8 +194,8 @@ impl Index {
         Ok(())
     }
 
-    /// The index of all rules of a grammar. It takes time and memory in proportion to the items of
-    /// the rules.
+    /// The index of all rules of a grammar. Err only if memory is refused. Worst case: time and
+    /// memory in proportion to the items of the rules.
     pub(crate) fn new<S: Semiring>(alloc: Global, normal: &Normal<S>) -> Result<Index, AllocError>
         ensures { IfOk result (IsIndex S.product normal.now.rules) }
     {
@@ -206,7 +208,7 @@ impl Index {
         Ok(index)
     }
 
-    /// What there is for a label and a rank.
+    /// What there is for a label and a rank. It takes one look-up by hash.
     pub(crate) fn find(&self, label: Label, rank: u32) -> Option<&Shape>
         ensures { (product : ℕ → ℕ → ℕ) → (rules : List (Rule ℕ)) → IsIndex product rules self.now →
             IfSome result (λ s. IsShape product rules label rank s.now) }

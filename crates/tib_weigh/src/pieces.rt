@@ -63,7 +63,8 @@ pub fn middle_of(trees: &[Tree], times: u32, least: usize) -> Option<usize>
 }
 
 /// How many times trees are split for all processors, from 2 to 7: into four pieces for each of up
-/// to 32 processors, since pieces differ in length. Takes no memory.
+/// to 32 processors, since pieces differ in length. One processor is assumed where the system does
+/// not tell. Takes no memory, and one call of the system.
 pub fn halvings<R: Threads>(rt: &R) -> u32
     ensures { (2 ≤ result) × (result ≤ 7) }
 {

@@ -18,7 +18,8 @@ pub(crate) struct Ready {
     pub cost: Cost,
 }
 
-/// Whether the states of two rules of one rank agree at all child places but one.
+/// Whether the states of two rules of one rank agree at all child places but one. Worst case: a
+/// step for each place.
 pub(crate) fn agree_beside(first: &[Item<u32>], second: &[Item<u32>], place: usize) -> bool
     requires { length first.now ≡ length second.now }
     ensures { IsTrue result → (i : ℕ) → i < length first.now → (i ≡ place → ⊥) →

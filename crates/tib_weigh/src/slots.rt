@@ -110,7 +110,9 @@ fn flattened(alloc: Global, lists: &[Vec<Ready>]) -> Result<Slots, AllocError>
 }
 
 impl Slots {
-    /// The rules at some positions in this number of slots, by the states at a child place.
+    /// The rules at some positions in this number of slots, by the states at a child place. Err
+    /// only if memory is refused. Worst case: memory in proportion to the positions and the slots,
+    /// and time in proportion to that and to the states below the rules.
     pub(crate) fn new(
         alloc: Global,
         rules: &[Rule<u32>],
@@ -132,7 +134,7 @@ impl Slots {
         flattened(alloc, &lists)
     }
 
-    /// The rules in the slot of a state.
+    /// The rules in the slot of a state. It takes a few steps.
     pub(crate) fn at(&self, state: u32) -> &[Ready]
         ensures { result.now ≡ slot_at (slots_of self.now.starts.items self.now.ready.items)
             state }
@@ -141,7 +143,7 @@ impl Slots {
         &self.ready[self.starts[slot]..self.starts[slot + 1]]
     }
 
-    /// Whether there is a rule in the slot of a state.
+    /// Whether there is a rule in the slot of a state. It takes a few steps.
     pub(crate) fn has(&self, state: u32) -> bool
         ensures { result ≡ nat_lt 0 (length (slot_at (slots_of self.now.starts.items
             self.now.ready.items) state)) }
@@ -150,7 +152,8 @@ impl Slots {
         self.starts[slot] < self.starts[slot + 1]
     }
 
-    /// How many slots have a rule: about as many as there are states at the child place.
+    /// How many slots have a rule: about as many as there are states at the child place. Worst
+    /// case: a step for each slot.
     pub(crate) fn used(&self) -> usize {
         let mut used: usize = 0;
         for slot in 1..self.starts.len() {

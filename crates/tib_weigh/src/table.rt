@@ -23,7 +23,8 @@ pub(crate) struct Table {
 
 impl Table {
     /// The table of some rules of one rank at a child place, in a grammar of this number of states.
-    /// It takes time and memory in proportion to the number of positions.
+    /// Err only if memory is refused. Worst case: memory in proportion to the number of positions,
+    /// and time in proportion to that times the rank.
     pub(crate) fn new(
         alloc: Global,
         rules: &[Rule<u32>],
@@ -48,24 +49,24 @@ impl Table {
         })
     }
 
-    /// About how many rules this number of states leaves.
+    /// About how many rules this number of states leaves. It takes a few steps.
     pub(crate) fn left_by(&self, states: usize) -> usize {
         states.saturating_mul(self.average)
     }
 
-    /// Whether at least a fourth of the slots have no rule.
+    /// Whether more than a fourth of the slots have no rule. It takes a step.
     pub(crate) fn is_sparse(&self) -> bool {
         self.is_sparse
     }
 
-    /// Whether `at` gives any rule for a state.
+    /// Whether `at` gives any rule for a state. It takes a few steps.
     pub(crate) fn has(&self, state: u32) -> bool
         ensures { result ≡ nat_lt 0 (length (bucket self.now state)) }
     {
         self.slots.has(state)
     }
 
-    /// The rules of a state, and maybe rules of others.
+    /// The rules of a state, and maybe rules of others. It takes a few steps.
     pub(crate) fn at(&self, state: u32) -> &[Ready]
         ensures { result.now ≡ bucket self.now state }
     {

@@ -195,7 +195,9 @@ fn try_entries<S: Semiring>(
 }
 
 /// Tries the rules of a table at a child place that the vector there serves. The list lends its
-/// room only: what it holds is ignored.
+/// room only: what it holds is ignored. Err only if memory is refused; the costs are then those of
+/// some of the rules. Worst case: O(r k log s + s) steps for r rules of the table, of rank k over s
+/// states.
 pub(crate) fn try_table<S: Semiring>(
     found: &mut CostsByState,
     picked: &mut Vec<Entry>,

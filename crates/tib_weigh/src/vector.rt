@@ -35,7 +35,7 @@ fn place_of(vector: &[Entry], state: u32) -> usize
     low
 }
 
-/// The cost at a state.
+/// The cost at a state. Worst case: O(log n) steps for n entries.
 pub(crate) fn cost_at(vector: &[Entry], state: u32) -> Option<Cost>
     requires { IsAscending vector.now }
     ensures { result ≡ cost_in vector.now state }
@@ -59,7 +59,9 @@ pub(crate) fn lesser(a: Cost, b: Cost) -> Cost
     a.min(b)
 }
 
-/// Lowers the cost at the last state to this one, or puts a further state last.
+/// Lowers the cost at the last state to this one, or puts a further state last. Err only if memory
+/// is refused; the vector is then as before. Worst case: a few steps, and now and then the vector
+/// is moved.
 pub(crate) fn add_cost(vector: &mut Vec<Entry>, state: u32, cost: Cost) -> Result<(), AllocError>
     requires ascends { IsAscending vector.old.items }
     requires last { EndsBy state vector.old.items }

@@ -159,8 +159,8 @@ fn index_for<S: Semiring>(
 /// The least cost at most 10^15 of a run of the grammar from its start that yields the tree, and
 /// None exactly where there is none (inside costs of weighted tree automata; Knuth 1977, Goodman
 /// 1999). Err only if memory is refused. For many trees `weigh_all` is cheaper: it indexes the
-/// rules once. Worst case: O(r k log s) steps at a node, for r rules of its label and rank k over s
-/// states.
+/// rules once. Worst case: O(r k log s + s) steps at a node, for r rules of its label and rank k
+/// over s states, and time and memory in proportion to the rules and the states.
 pub fn weigh<S: Semiring>(
     alloc: Global,
     normal: &Normal<S>,
@@ -241,7 +241,8 @@ fn weigh_halves<S: Semiring + Sync, R: Threads + Sync>(
 
 /// The costs of the trees, in order, found in several threads: each is what `weigh` gives. Err only
 /// if memory is refused. Worst case: the steps that `weigh` takes at each node, and one pass over
-/// the rules; each piece that has a thread takes room for a cost of each state.
+/// the rules, with memory in proportion to them; each piece that has a thread takes room for a cost
+/// of each state.
 pub fn weigh_all<S: Semiring + Sync, R: Threads + Sync>(
     rt: &R,
     alloc: Global,
