@@ -2,7 +2,7 @@
 // have.
 ghost use Rattle.std.specs.Prelude.{◌≡◌, ℕ, ◌<◌, ◌≤◌, ◌+◌, ◌^◌, length, IfErr, IfOk, OnOk};
 ghost use Rattle.tib_grammar.specs.Forms.{AreNormal, IsDeterministic};
-ghost use Rattle.tib_grammar.specs.Range.{AreInRange, SidesEndInHoles};
+ghost use Rattle.tib_grammar.specs.Range.{AreInRange};
 ghost use Rattle.tib_grammar_file.specs.Printed.{AreLabelled};
 ghost use Rattle.tib_ranked_trees.specs.Ranked.{AreRanksOf};
 ghost use Rattle.tib_ranked_trees.specs.Best.{IsFrontAt, IsKBest};
@@ -31,15 +31,6 @@ pub(crate) enum Form {
     Any,
     // They are in deterministic form, so few entries are placed.
     Deterministic,
-}
-
-// What holds of all rules: nothing is below a state on a right-hand side. It computes nothing.
-fn are_sound(rules: &[Rule<u32>])
-    ensures { SidesEndInHoles rules.now }
-{
-    for rule in rules {
-        rule.right.items();
-    }
 }
 
 // Lists over rules in normal form, with no trees yet.
@@ -79,7 +70,6 @@ fn ask<S: Semiring>(alloc: Global, lists: &mut Lists, k: u32, form: Form) -> Res
     requires trimmed { AreTrimmed lists.old }
     requires orderly { IsOrderly S.product lists.old.rules }
     requires form { form ≡ Deterministic → IsDeterministic lists.old.rules }
-    requires leaves { SidesEndInHoles lists.old.rules }
     ensures best { OnOk result (IsKBest S.product lists.old.rules lists.old.labels k
         (entries_of lists.new 0)) }
     ensures fronts { OnOk result (form ≡ Deterministic → (q : ℕ) →
@@ -106,7 +96,6 @@ fn list_trees<S: Semiring>(
     requires few { length lists.old.rules < 2 ^ 32 }
     requires orderly { IsOrderly S.product lists.old.rules }
     requires form { form ≡ Deterministic → IsDeterministic lists.old.rules }
-    requires leaves { SidesEndInHoles lists.old.rules }
     requires sound { IsSound lists.old }
     requires empty { lists.old ≡ empty_lists lists.old.rules lists.old.labels
         lists.old.label_ranks (length lists.old.lists) }
@@ -165,7 +154,6 @@ pub(crate) fn lists_of_rules<'a, S: Semiring>(
         entries_held x ≤ states + nodes_of (entries_of x 0)) }
     ensures cause { IfErr result (IsCause S.product labels.now rules.now k) }
 {
-    are_sound(rules);
     let Ok(mut lists) = empty(alloc, rules, states, labels, ranks) else {
         return Err(KBestError::OutOfMemory);
     };

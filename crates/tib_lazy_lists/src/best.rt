@@ -1,7 +1,6 @@
 // The best trees of the start.
 ghost use Rattle.std.specs.Prelude.{◌≡◌, ◌<◌, ◌≤◌, ◌+◌, ℕ, length, IfErr, OnOk};
 ghost use Rattle.tib_grammar.specs.Forms.{IsDeterministic};
-ghost use Rattle.tib_grammar.specs.Range.{SidesEndInHoles};
 ghost use Rattle.tib_ranked_trees.specs.Best.{IsFrontAt, IsKBest};
 ghost use Rattle.tib_ranked_trees.specs.Levels.{IsOrderly};
 ghost use Rattle.tib_ranked_trees.specs.Held.{entries_of, IsSound};
@@ -69,10 +68,9 @@ pub fn ask_best<S: Semiring>(alloc: Global, lists: &mut Lists, k: u32) -> Result
     }
 }
 
-/// Does what `ask_best` does, with the same errors, over rules in deterministic form, in whose
-/// right-hand sides nothing is below a state (as in each `Grammar`). It places few entries: all
-/// states together have at most as many as there are states and nodes of the listed trees of
-/// state 0.
+/// Does what `ask_best` does, with the same errors, over rules in deterministic form. It places few
+/// entries: all states together have at most as many as there are states and nodes of the listed
+/// trees of state 0.
 ///
 /// A state that is asked for an entry first asks each state below its last tree, and charges that
 /// to the entry that it has. The tree that it takes then is new, since no two rules make the same
@@ -84,7 +82,6 @@ pub fn ask_lazily<S: Semiring>(alloc: Global, lists: &mut Lists, k: u32) -> Resu
     requires trimmed { AreTrimmed lists.old }
     requires orderly { IsOrderly S.product lists.old.rules }
     requires form { IsDeterministic lists.old.rules }
-    requires leaves { SidesEndInHoles lists.old.rules }
     ensures best { OnOk result (IsKBest S.product lists.old.rules lists.old.labels k
         (entries_of lists.new 0)) }
     ensures fronts { OnOk result ((q : ℕ) → IsFrontAt S.product lists.old.labels lists.old.rules q
@@ -98,6 +95,7 @@ pub fn ask_lazily<S: Semiring>(alloc: Global, lists: &mut Lists, k: u32) -> Resu
         ≤ length lists.old.lists + nodes_of (entries_of lists.new 0)) }
     ensures cause { IfErr result (IsAskCause S.product lists.old k) }
 {
+    lists.end_in_states();
     match Asking::new::<S>(alloc, lists, k) {
         Ok(mut asking) => asking.list_start::<S>(alloc, lists),
         Err(_) => Err(AskError::OutOfMemory),

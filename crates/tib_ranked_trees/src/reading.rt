@@ -1,6 +1,7 @@
 // Reads lists, candidates and rules.
 ghost use Rattle.std.specs.Prelude.{◌≡◌, ℕ, ◌<◌, [], length, map, replicate, IfOk};
 ghost use Rattle.std.proofs.Common.{get_or};
+ghost use Rattle.tib_grammar.specs.Range.{SidesEndInHoles};
 ghost use Rattle.tib_grammar.specs.Run.{rule_at};
 ghost use Rattle.tib_ranked_trees.specs.Levels.{states_of};
 ghost use Rattle.tib_ranked_trees.specs.ListsOf.{items_of};
@@ -130,6 +131,15 @@ impl<'a> Lists<'a> {
         ensures { result ≡ get_or (ranks_from self.now rule start) i 0 }
     {
         self.ranks[start + i]
+    }
+
+    /// No right-hand side has anything below a state. It computes nothing.
+    pub fn end_in_states(&self)
+        ensures { SidesEndInHoles self.now.rules }
+    {
+        for rule in self.rules {
+            rule.right.items();
+        }
     }
 
     /// Distinct numbers are distinct trees. It computes nothing.

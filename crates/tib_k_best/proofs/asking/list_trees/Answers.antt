@@ -1,7 +1,6 @@
 use Rattle.std.specs.Prelude.{◌<◌}
 use Rattle.std.proofs.Common.{arith, refl, subst, sym}
 use Rattle.tib_grammar.specs.Forms.{IsDeterministic}
-use Rattle.tib_grammar.specs.Range.{SidesEndInHoles}
 use Rattle.tib_ranked_trees.specs.Levels.{IsOrderly}
 use Rattle.tib_k_best.specs.Trimmed.{HaveTreesBelow}
 use Rattle.tib_k_best.proofs.Bests.{best_first, best_over, fault_cause}
@@ -30,9 +29,6 @@ ask-requires-clause-orderly g c = subst (λ rs. IsOrderly g.S.Semiring.product r
 
 pub ask-requires-clause-form : goal.ask-requires-clause-form
 ask-requires-clause-form g c = λ is. subst (λ rs. IsDeterministic rs) (sym c.in-Ok.ensures.rules) (c.requires.form is)
-
-pub ask-requires-clause-leaves : goal.ask-requires-clause-leaves
-ask-requires-clause-leaves g c = subst (λ rs. SidesEndInHoles rs) (sym c.in-Ok.ensures.rules) c.requires.leaves
 
 pub ask-requires-clause-trimmed : goal.ask-requires-clause-trimmed
 ask-requires-clause-trimmed g c =

@@ -1,7 +1,6 @@
 use Rattle.std.specs.Prelude.{◌<◌}
 use Rattle.std.proofs.Common.{subst, sym}
 use Rattle.tib_grammar.specs.Forms.{IsDeterministic}
-use Rattle.tib_grammar.specs.Range.{SidesEndInHoles}
 use Rattle.tib_ranked_trees.specs.ListsOf.{ListsOf}
 use Rattle.tib_k_best.specs.Trimmed.{HaveTreesBelow}
 use Rattle.tib_k_best.proofs.Bests.{best_listed}
@@ -14,9 +13,6 @@ list_trees-requires-clause-trimmed g c =
 
 pub list_trees-requires-clause-form : goal.list_trees-requires-clause-form
 list_trees-requires-clause-form g c = λ is. subst (λ (z : ListsOf). IsDeterministic z.rules) (sym c.in-Ok.ensures.empty) (c.requires.form is)
-
-pub list_trees-requires-clause-leaves : goal.list_trees-requires-clause-leaves
-list_trees-requires-clause-leaves g c = subst (λ (z : ListsOf). SidesEndInHoles z.rules) (sym c.in-Ok.ensures.empty) c.are_sound.ensures
 
 pub returns-in-Ok-list_trees-clause-best : goal.returns-in-Ok-list_trees-clause-best
 returns-in-Ok-list_trees-clause-best g c =

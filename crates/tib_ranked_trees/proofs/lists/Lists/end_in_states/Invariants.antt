@@ -2,7 +2,7 @@ use Rattle.std.proofs.Common.{ℕ, ◌<◌}
 use Rattle.tib_tree.specs.Trees.{only}
 use Rattle.tib_grammar.specs.Sides.{HolesAreLeaves}
 use Rattle.tib_grammar.specs.Run.{rule_at}
-use Rattle.tib_k_best.proofs.asking.are_sound.Given as goal
+use Rattle.tib_ranked_trees.proofs.lists.Lists.end_in_states.Given as goal
 
 abbrev pub invariant-loop-rule : goal.invariant-loop-rule
-invariant-loop-rule l = (k : ℕ) → k < l.rule-index → HolesAreLeaves (only (rule_at l.rules k).right)
+invariant-loop-rule l = (k : ℕ) → k < l.rule-index → HolesAreLeaves (only (rule_at l.self.rules k).right)
