@@ -4,22 +4,25 @@ use Rattle.std.specs.Prelude.{◌≡◌, ◌⊎◌, ◌↔◌, ℕ, ◌+◌, ◌
 use Rattle.std.proofs.Common.{zero, suc, arith, ap, sym, ◌∙◌, subst, inl, inr, get_or}
 use Rattle.std.proofs.lemmas.List.{length-map}
 use Rattle.tib_lex.proofs.Members.{each_has, each_of, has_at}
+use Rattle.tib_lex.proofs.Places.{distinct_at}
 use Rattle.tib_cost.specs.Semiring.{ProductLaws}
 use Rattle.tib_tree.specs.Trees.{Trees, none, tree, only, relabel}
-use Rattle.tib_grammar.specs.Forms.{AreNormal, IsNormalSide}
+use Rattle.tib_grammar.specs.Forms.{AreNormal, IsDeterministic, IsNormalSide}
 use Rattle.tib_grammar.specs.GrammarOf.{GrammarOf}
 use Rattle.tib_grammar.specs.Range.{AreInRange}
 use Rattle.tib_grammar.specs.Run.{rule_at, AreRuns}
-use Rattle.tib_grammar.specs.Sides.{Symbol, label, hole, symbol_map}
+use Rattle.tib_grammar.specs.Sides.{Symbol, label, hole, side_map, symbol_map}
 use Rattle.tib_grammar.specs.declared.Rule.{Rule}
 use Rattle.tib_grammar_file.specs.Printed.{AreLabelled, LabelsBelow}
 use Rattle.tib_inside.specs.Trimmed.{IsTrimmed}
 use Rattle.tib_inside.specs.Useful.{IsUseful}
+use Rattle.tib_inside.proofs.Chosen.{ascending_distinct}
 use Rattle.tib_inside.proofs.Keeping.{as_many, named_at}
 use Rattle.tib_ranked_trees.specs.Levels.{IsOrderly}
-use Rattle.tib_ranked_trees.specs.Best.{Costed, HasLarge, IsKBest, IsTreeAt}
+use Rattle.tib_ranked_trees.specs.Best.{Costed, HasLarge, IsFrontAt, IsKBest, IsTreeAt}
 use Rattle.tib_ranked_trees.proofs.Children.{get_or-map}
 use Rattle.tib_k_best.specs.Causes.{IsCause, IsUsefulCause}
+use Rattle.tib_k_best.specs.LazyLists.{AreUsefulLists}
 use Rattle.tib_k_best.specs.Trimmed.{HaveTreesBelow, TrimmedHasTrees}
 use Rattle.tib_k_best.specs.declared.error.KBestError.{KBestError}
 use Rattle.tib_k_best.specs.declared.error.KBestError.TheVariants.{TreeTooLarge, OutOfMemory}
@@ -134,6 +137,40 @@ module _ (product : ℕ → ℕ → ℕ) (old : List (Rule ℕ)) (count : ℕ) (
 
   series_at : (q : ℕ) → q < length states → (y : Costed) → IsTreeAt product old (get_or states q 0) y ↔ IsTreeAt product new q y
   series_at q h y = subst (λ p. IsTreeAt product old p y ↔ IsTreeAt product new q y) (same_state q h) (t.each (names_from 0 count) is q (omega (arith, h, many_states)) y.0 (Some y.1))
+
+  -- each list of a kept state's trees is one of the state under its earlier number
+  front_back : (labels : List (List ℕ)) (q : ℕ) → q < length states → (xs : List Costed) → IsFrontAt product labels new q xs → IsFrontAt product labels old (get_or states q 0) xs
+  front_back labels q h xs f = record {
+    members = each_of (IsTreeAt product old (get_or states q 0)) xs (λ x m. (series_at q h x).1 (each_has (IsTreeAt product new q) xs x f.members m));
+    ascends = f.ascends;
+    others = λ y m n. f.others y ((series_at q h y).0 m) n;
+  }
+
+  -- lists of all trimmed states are those of the useful ones
+  pub useful_lists :
+      (labels : List (List ℕ)) (ls : List (List Costed)) → length ls ≡ length states → ((q : ℕ) → IsFrontAt product labels new q (get_or ls q [])) → AreUsefulLists product labels old ls
+  useful_lists labels ls long fronts = record {
+    states = is.states;
+    ascend = is.states_ascend;
+    are_states = is.are_states;
+    long = long ∙ sym many_states;
+    fronts = λ i h.
+        let low : i < length states = omega (arith, h, many_states) in
+        subst (λ p. IsFrontAt product labels old p (get_or ls i [])) (sym (same_state i low)) (front_back labels i low (get_or ls i []) (fronts i));
+  }
+
+  side_from : (n : ℕ) → n < length new → (rule_at old (get_or is.rules n 0)).right ≡ side_map (λ j. get_or is.states j 0) (rule_at new n).right
+  side_from n h = ap (λ (r : Rule ℕ). r.right) (sym (named_at product before after is n h))
+
+  -- rules with the same right-hand side came from one rule
+  pub trimmed_form : AreNormal old → IsDeterministic old → IsDeterministic new
+  trimmed_form normal form = record {
+    shaped = λ n h. inl (trimmed_normal normal n h);
+    apart = λ m n h k e.
+        let same : get_or is.rules m 0 ≡ get_or is.rules n 0 =
+        form.apart (get_or is.rules m 0) (get_or is.rules n 0) (old_place m h) (old_place n k) (side_from m h ∙ ap (side_map (λ j. get_or is.states j 0)) e ∙ sym (side_from n k)) in
+        distinct_at is.rules m n 0 (ascending_distinct is.rules is.rules_ascend) (omega (arith, h, as_many product before after is)) (omega (arith, k, as_many product before after is)) same;
+  }
 
   large_back : (labels : List (List ℕ)) (k q : ℕ) → q < length states → HasLarge product labels new k q → HasLarge product labels old k (get_or states q 0)
   large_back labels k q h l =

@@ -1,5 +1,5 @@
 -- Rules that were trimmed, and their errors with the numbers that the states had before.
-use Rattle.std.specs.Prelude.{◌≡◌, ℕ, ◌<◌, List, length}
+use Rattle.std.specs.Prelude.{◌≡◌, ℕ, ◌<◌, ◌≤◌, List, length}
 use Rattle.std.proofs.Common.{get_or}
 use Rattle.tib_grammar.specs.Range.{AreBelow, AreInRange}
 use Rattle.tib_grammar.specs.Series.{HaveSameSeries}
@@ -17,6 +17,7 @@ pub record AreKept (product : ℕ → ℕ → ℕ) (old : List (Rule ℕ)) (coun
   pub each : HaveSeriesOfEach product old states new
   pub range : AreInRange (length states) new
   pub some : 0 < length states
+  pub few : length states ≤ count
   pub below : AreBelow count states
 
 -- the state that an error names is below a number

@@ -10,13 +10,16 @@ ghost use Rattle.tib_ranked_trees.specs.Best.{IsFrontAt, IsKBest};
 ghost use Rattle.tib_ranked_trees.specs.Levels.{IsOrderly};
 ghost use Rattle.tib_ranked_trees.specs.Held.{IsSound};
 ghost use Rattle.tib_lazy_lists.specs.Demands.{entries_held, nodes_of};
-ghost use Rattle.tib_k_best.specs.Causes.{IsCause};
-ghost use Rattle.tib_k_best.specs.LazyLists.{entries_in};
+ghost use Rattle.tib_k_best.specs.Causes.{IsCause, IsUsefulCause};
+ghost use Rattle.tib_k_best.specs.LazyLists.{entries_in, AreUsefulLists};
 ghost use Rattle.tib_k_best.specs.Listing.{costed};
 ghost use Rattle.tib_k_best.specs.Trimmed.{HaveTreesBelow};
 
 use crate::asking::{Form, lists_of_rules};
 use crate::error::KBestError;
+use crate::laws::trimmed_has_trees;
+use crate::level::{renamed, trimmed_rules};
+use crate::levels::copied_rules;
 use crate::listed::List;
 use std::alloc::Global;
 use std::marker::Model;
@@ -26,8 +29,8 @@ use tib_normal::Normal;
 use tib_ranked_trees::{Entry, Lists, Shared, label_ranks};
 use tib_tree::Labels;
 
-/// The lists of all states, each from its best tree on: that of the start, and of the others what
-/// was needed to make it.
+/// The lists of the start and of each useful state, each from its best tree on: that of the start,
+/// and of the others what was needed to make it.
 #[derive(Drop)]
 pub struct LazyList {
     trees: Shared,
@@ -104,10 +107,9 @@ impl LazyList {
     }
 }
 
-/// The lists of rules in normal and in deterministic form, over this number of states. `ranks` has
-/// the place of each label's text in order. The errors and the worst case are those of
-/// `lazy_k_best`.
-pub fn lazy_of_rules<S: Semiring>(
+// The lists of all states of rules in normal and in deterministic form, over this number of states.
+// An error may name any state.
+pub(crate) fn lazy_of_rules<S: Semiring>(
     alloc: Global,
     rules: &[Rule<u32>],
     states: u32,
@@ -139,11 +141,49 @@ pub fn lazy_of_rules<S: Semiring>(
     }
 }
 
-/// The k best trees of a grammar in deterministic form, as `k_best` gives them and with the same
-/// errors, with the entries of all states that were placed for them: at most as many as there are
-/// states and nodes of the listed trees. Worst case: that of `first_trees`, a pass over the last
-/// listed tree for each tree that is listed, O(log n) comparisons for each entry and candidate, and
-/// O(n log n) comparisons of texts for n labels.
+// The lists of the start and of each useful state of rules in normal and in deterministic form,
+// which are trimmed first.
+fn lazy_of_useful<S: Semiring>(
+    alloc: Global,
+    rules: Vec<Rule<u32>>,
+    states: u32,
+    labels: &Labels,
+    ranks: &[u32],
+    k: u32,
+) -> Result<LazyList, KBestError>
+    requires some { 0 < k }
+    requires few { length rules.items < 2 ^ 32 }
+    requires start { 0 < states }
+    requires normal { AreNormal rules.items }
+    requires range { AreInRange states rules.items }
+    requires labelled { AreLabelled (length labels.now) rules.items }
+    requires ranks { AreRanksOf labels.now ranks.now }
+    requires orderly { IsOrderly S.product rules.items }
+    requires form { IsDeterministic rules.items }
+    ensures best { IfOk result (λ ls. IsKBest S.product rules.items labels.now k (get_or ls 0 [])) }
+    ensures lists { IfOk result (λ ls. AreUsefulLists S.product labels.now rules.items ls) }
+    ensures few { IfOk result (λ ls. length ls ≤ states) }
+    ensures bound { IfOk result (λ ls. entries_in ls ≤ length ls + nodes_of (get_or ls 0 [])) }
+    ensures cause { IfErr result (IsUsefulCause S.product labels.now rules.items k) }
+{
+    let Ok(trimmed) = trimmed_rules::<S>(alloc, rules, states) else {
+        return Err(KBestError::OutOfMemory);
+    };
+    trimmed_has_trees::<S>();
+    let kept = trimmed.states.len() as u32;
+    match lazy_of_rules::<S>(alloc, &trimmed.rules, kept, labels, ranks, k) {
+        Ok(lists) => Ok(lists),
+        Err(error) => Err(renamed(error, &trimmed.states)),
+    }
+}
+
+/// The k best trees of a grammar in deterministic form, as `k_best` gives them, with the entries of
+/// the start and of each useful state that were placed for them: at most as many as there are such
+/// states and nodes of the listed trees. `TreeTooLarge` names a useful state that has among its k
+/// best trees one of more than 10,000 nodes; `OutOfMemory` comes if memory is refused. Worst case:
+/// that of `trim_rules`, a copy of the rules, O(r log r) comparisons of trees for r rules, a pass
+/// over the last listed tree for each tree that is listed, O(log n) comparisons for each entry and
+/// candidate, and O(n log n) comparisons of texts for n labels.
 pub fn lazy_k_best<S: Semiring>(
     alloc: Global,
     normal: &Normal<S>,
@@ -155,16 +195,13 @@ pub fn lazy_k_best<S: Semiring>(
         (rule_at normal.now.rules n).cost ≡ 0 }
     requires labelled { AreLabelled (length labels.now) normal.now.rules }
     requires some { 0 < k }
-    requires trimmed { HaveTreesBelow S.product normal.now.rules }
     requires form { IsDeterministic normal.now.rules }
     ensures best { IfOk result (λ ls. IsKBest S.product normal.now.rules labels.now k
         (get_or ls 0 [])) }
-    ensures fronts { IfOk result (λ ls. (q : ℕ) → IsFrontAt S.product labels.now normal.now.rules q
-        (get_or ls q [])) }
-    ensures states { IfOk result (λ ls. length ls ≡ length normal.now.names) }
-    ensures bound { IfOk result (λ ls. entries_in ls
-        ≤ length normal.now.names + nodes_of (get_or ls 0 [])) }
-    ensures cause { IfErr result (IsCause S.product labels.now normal.now.rules k) }
+    ensures lists { IfOk result (λ ls. AreUsefulLists S.product labels.now normal.now.rules ls) }
+    ensures few { IfOk result (λ ls. length ls ≤ length normal.now.names) }
+    ensures bound { IfOk result (λ ls. entries_in ls ≤ length ls + nodes_of (get_or ls 0 [])) }
+    ensures cause { IfErr result (IsUsefulCause S.product labels.now normal.now.rules k) }
 {
     let Ok(ranks) = label_ranks(alloc, labels) else {
         return Err(KBestError::OutOfMemory);
@@ -172,5 +209,8 @@ pub fn lazy_k_best<S: Semiring>(
     let grammar = normal.grammar();
     grammar.is_sound();
     let states = grammar.states();
-    lazy_of_rules::<S>(alloc, grammar.rule_list(), states, labels, &ranks, k)
+    let Ok(copy) = copied_rules(alloc, grammar.rule_list()) else {
+        return Err(KBestError::OutOfMemory);
+    };
+    lazy_of_useful::<S>(alloc, copy, states, labels, &ranks, k)
 }

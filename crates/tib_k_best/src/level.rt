@@ -22,7 +22,7 @@ use tib_inside::{TrimmedRules, trim_rules};
 use tib_tree::Labels;
 
 // Rules, trimmed.
-fn trimmed_rules<S: Semiring>(
+pub(crate) fn trimmed_rules<S: Semiring>(
     alloc: Global,
     rules: Vec<Rule<u32>>,
     states: u32,
@@ -40,7 +40,7 @@ fn trimmed_rules<S: Semiring>(
 }
 
 // The same error, with the number that the state had before.
-fn renamed(error: KBestError, states: &[u32]) -> KBestError
+pub(crate) fn renamed(error: KBestError, states: &[u32]) -> KBestError
     requires { NamesBelow (length states.now) error }
     ensures { IsRenamed states.now error result }
 {

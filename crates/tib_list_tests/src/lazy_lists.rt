@@ -1,49 +1,14 @@
 // Lists of best trees of grammars in deterministic form, by `lazy_k_best` and by `k_best`.
-ghost use Rattle.std.specs.Prelude.{[], ◌≡◌, ◌+◌, ◌<◌, IfOk, IfSome, length, ℕ};
+ghost use Rattle.std.specs.Prelude.{[], ◌≡◌, ◌<◌, length};
 ghost use Rattle.tib_grammar.specs.Forms.{IsDeterministic};
 ghost use Rattle.tib_grammar_file.specs.Printed.{AreLabelled};
-ghost use Rattle.tib_k_best.specs.Trimmed.{HaveTreesBelow};
 
 use crate::texts::{read, write_answer, write_fault, write_list, write_number};
 use std::alloc::{AllocError, Global};
-use tib_cost::{MinPlus, Semiring};
-use tib_inside::trim_normal;
-use tib_k_best::{LazyList, List, k_best, lazy_k_best, trimmed_has_trees};
+use tib_cost::MinPlus;
+use tib_k_best::{LazyList, List, k_best, lazy_k_best};
 use tib_normal::Normal;
 use tib_tree::Labels;
-
-// The trimmed grammar of one in normal form. Its labels are those of the other.
-fn trimmed_of<S: Semiring + Drop>(alloc: Global, normal: Normal<S>) -> Result<Normal<S>, AllocError>
-    ensures labelled { IfOk result (λ n. (many : ℕ) → AreLabelled many normal.rules →
-        AreLabelled many n.rules) }
-    ensures trimmed { IfOk result (λ n. HaveTreesBelow S.product n.rules) }
-{
-    normal.grammar();
-    let trimmed = trim_normal::<S>(alloc, normal)?;
-    trimmed.grammar();
-    trimmed_has_trees::<S>();
-    Ok(trimmed)
-}
-
-// The trimmed grammar of a text, where it is in normal form. Its labels go into a table that had
-// none.
-fn read_trimmed<S: Semiring + Drop>(
-    alloc: Global,
-    text: &str,
-    labels: &mut Labels,
-) -> Option<Normal<S>>
-    requires { labels.old ≡ [] }
-    ensures labelled { IfSome result (λ n. AreLabelled (length labels.new) n.rules) }
-    ensures trimmed { IfSome result (λ n. HaveTreesBelow S.product n.rules) }
-{
-    match read::<S>(alloc, text, labels) {
-        Some(normal) => match trimmed_of::<S>(alloc, normal) {
-            Ok(trimmed) => Some(trimmed),
-            Err(_) => None,
-        },
-        None => None,
-    }
-}
 
 // How many nodes the trees of a list have together.
 fn nodes_of(alloc: Global, list: &List) -> Result<u64, AllocError> {
@@ -95,7 +60,6 @@ fn write_asked(
     with_steps: bool,
 ) -> Result<(), AllocError>
     requires labelled { AreLabelled (length labels.now) normal.now.rules }
-    requires trimmed { HaveTreesBelow ◌+◌ normal.now.rules }
     requires form { IsDeterministic normal.now.rules }
     requires some { 0 < k }
 {
@@ -114,7 +78,6 @@ fn write_if_deterministic(
     with_steps: bool,
 ) -> Result<(), AllocError>
     requires labelled { AreLabelled (length labels.now) normal.now.rules }
-    requires trimmed { HaveTreesBelow ◌+◌ normal.now.rules }
     requires some { 0 < k }
 {
     match normal.grammar().deterministic(*told.allocator()) {
@@ -135,7 +98,7 @@ fn is_written_over(
     requires labels { labels.old ≡ [] }
     requires some { 0 < k }
 {
-    match read_trimmed::<MinPlus>(*told.allocator(), text, labels) {
+    match read::<MinPlus>(*told.allocator(), text, labels) {
         Some(normal) => write_if_deterministic(told, &normal, labels, k, with_steps).is_ok(),
         None => false,
     }
@@ -167,7 +130,7 @@ fn is_best_written_over(told: &mut String, text: &str, labels: &mut Labels, k: u
     requires labels { labels.old ≡ [] }
     requires some { 0 < k }
 {
-    match read_trimmed::<MinPlus>(*told.allocator(), text, labels) {
+    match read::<MinPlus>(*told.allocator(), text, labels) {
         Some(normal) => write_best(told, &normal, labels, k).is_ok(),
         None => false,
     }
@@ -263,4 +226,14 @@ fn large_trees_that_nobody_asks_for(rt: HostRuntime) {
         t5 -> g(t6 t6)\nt6 -> g(t7 t7)\nt7 -> g(t8 t8)\nt8 -> g(t9 t9)\nt9 -> g(t10 t10)\n\
         t10 -> g(t11 t11)\nt11 -> g(t12 t12)\nt12 -> e\n";
     assert!(rt; is_listed_as(rt.alloc(), text, 2, "0/0 # 1; 1/0 # 2; by 17"));
+}
+
+#[test]
+fn large_trees_of_useless_states(rt: HostRuntime) {
+    // the first tree of t0 has 16,383 nodes, and p and r have no tree
+    let text = "q\nq -> a\nq -> h(p)\np -> h(r)\nr -> f(r q)\n\
+        t0 -> g(t1 t1)\nt1 -> g(t2 t2)\nt2 -> g(t3 t3)\nt3 -> g(t4 t4)\nt4 -> g(t5 t5)\n\
+        t5 -> g(t6 t6)\nt6 -> g(t7 t7)\nt7 -> g(t8 t8)\nt8 -> g(t9 t9)\nt9 -> g(t10 t10)\n\
+        t10 -> g(t11 t11)\nt11 -> g(t12 t12)\nt12 -> g(t13 t13)\nt13 -> e\n";
+    assert!(rt; is_listed_as(rt.alloc(), text, 2, "0/0 # 0; by 1"));
 }
