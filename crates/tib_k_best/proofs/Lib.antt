@@ -1,6 +1,7 @@
 pub mod Beginning
 pub mod Bests
 pub mod Counting
+pub mod Found
 pub mod LevelTrimming
 pub mod Levelled
 pub mod Listing

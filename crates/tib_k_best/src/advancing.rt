@@ -14,7 +14,7 @@ use tib_ranked_trees::heap::push;
 
 // The first place, from a given one on, whose state has no tree; the number of the states if each
 // has one.
-fn next_missing(lists: &Lists, rule: u32, from: usize) -> usize
+pub(crate) fn next_missing(lists: &Lists, rule: u32, from: usize) -> usize
     requires sound { IsSound lists.now }
     requires rule { rule < length lists.now.rules }
     requires from { from ≤ length (states_of (rule_at lists.now.rules rule)) }

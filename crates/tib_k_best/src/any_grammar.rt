@@ -1,12 +1,11 @@
 // The k best trees in every semiring.
-ghost use Rattle.std.specs.Prelude.{◌≡◌, ◌⊎◌, ℕ, ◌<◌, List as ListFor, [], false, true, length, IfErr, IfOk, IsTrue};
+ghost use Rattle.std.specs.Prelude.{◌≡◌, ◌⊎◌, ℕ, ◌<◌, List as ListFor, [], false, true, length, IfErr, IfOk, IfSome, IsTrue};
 ghost use Rattle.tib_grammar.specs.Forms.{IsDeterministic};
 ghost use Rattle.tib_grammar.specs.Run.{rule_at};
 ghost use Rattle.tib_grammar_file.specs.Printed.{AreLabelled};
 ghost use Rattle.tib_ranked_trees.specs.Best.{Costed, IsKBest};
 ghost use Rattle.tib_ranked_trees.specs.Levels.{IsOrderly};
 ghost use Rattle.tib_k_best.specs.Causes.{IsCause, IsLevelCause, IsUsefulCause};
-ghost use Rattle.tib_k_best.specs.Trimmed.{HaveTreesBelow};
 ghost use Rattle.tib_ranked_trees.specs.Ranked.{AreRanksOf};
 ghost use Rattle.tib_k_best.specs.RankedOf.{ranked_of, AreRanked};
 
@@ -92,21 +91,21 @@ fn is_deterministic<S: Semiring>(alloc: Global, grammar: &Grammar<S>) -> bool
     }
 }
 
-// The k best trees of a grammar, with few entries if it is in deterministic form. The product is
-// not the greater factor, or each rule costs 0.
+// The k best trees of a grammar, with few entries if it is in deterministic form. None only if some
+// state below a rule has no tree. The product is not the greater factor, or each rule costs 0.
 fn best_flat<S: Semiring>(
     alloc: Global,
     normal: &Normal<S>,
     labels: &Labels,
     ranks: &[u32],
     k: u32,
-) -> Result<List, KBestError>
+) -> Result<Option<List>, KBestError>
     requires orderly { IsOrderly S.product normal.now.rules }
     requires labelled { AreLabelled (length labels.now) normal.now.rules }
     requires ranks { AreRanksOf labels.now ranks.now }
     requires some { 0 < k }
-    requires trimmed { HaveTreesBelow S.product normal.now.rules }
-    ensures best { IfOk result (λ xs. IsKBest S.product normal.now.rules labels.now k xs) }
+    ensures best { IfOk result (λ found. IfSome found (λ xs. IsKBest S.product normal.now.rules
+        labels.now k xs)) }
     ensures cause { IfErr result (IsCause S.product labels.now normal.now.rules k) }
 {
     let grammar = normal.grammar();
@@ -117,7 +116,8 @@ fn best_flat<S: Semiring>(
         return list_of_rules::<S>(alloc, rules, states as usize, labels, ranks, k);
     }
     match lazy_of_rules::<S>(alloc, rules, states, labels, ranks, k) {
-        Ok(lists) => Ok(lists.into_list()),
+        Ok(Some(lists)) => Ok(Some(lists.into_list())),
+        Ok(None) => Ok(None),
         Err(error) => Err(error),
     }
 }
@@ -150,8 +150,8 @@ fn best_trimmed<S: Semiring>(
     )
 }
 
-// The same for a grammar in which each state below a rule has a tree, by `best_flat`. An error
-// names a useful state: if some state has a large tree, the grammar is copied and trimmed.
+// The same by `best_flat`. If some state below a rule has no tree, or some state has a large tree,
+// the grammar is copied and trimmed.
 fn best_useful<S: Semiring>(
     alloc: Global,
     normal: &Normal<S>,
@@ -163,12 +163,12 @@ fn best_useful<S: Semiring>(
     requires labelled { AreLabelled (length labels.now) normal.now.rules }
     requires ranks { AreRanksOf labels.now ranks.now }
     requires some { 0 < k }
-    requires trimmed { HaveTreesBelow S.product normal.now.rules }
     ensures best { IfOk result (λ xs. IsKBest S.product normal.now.rules labels.now k xs) }
     ensures cause { IfErr result (IsUsefulCause S.product labels.now normal.now.rules k) }
 {
     match best_flat::<S>(alloc, normal, labels, ranks, k) {
-        Ok(list) => Ok(list),
+        Ok(Some(list)) => Ok(list),
+        Ok(None) => best_trimmed::<S>(alloc, normal, labels, ranks, k),
         Err(KBestError::TreeTooLarge { .. }) => {
             best_trimmed::<S>(alloc, normal, labels, ranks, k)
         }
@@ -211,12 +211,12 @@ pub fn k_best<S: Semiring>(
     }
 }
 
-/// The same list, with the same errors, for a grammar in which each state below a rule has a tree,
-/// as in a trimmed one. It is not trimmed again, and few entries are placed if it is in
-/// deterministic form. Worst case: if the product is the greater factor, that of
-/// `k_best_by_levels`. Otherwise that of `lazy_of_rules` if the grammar is in deterministic form,
-/// and of `best_of_rules` if it is not, and in addition that of `k_best` if some state has a large
-/// tree.
+/// The same list, with the same errors, without trimming if each state below a rule has a tree, as
+/// in a trimmed grammar. Few entries are placed if it is in deterministic form. Worst case: if the
+/// product is the greater factor, that of `k_best_by_levels`. Otherwise that of `lazy_k_best`
+/// without trimming if the grammar is in deterministic form, and of `best_of_rules` if it is not,
+/// and in addition that of `k_best` if some state has a large tree, or some state below a rule has
+/// none.
 pub fn best_trees<S: Semiring>(
     alloc: Global,
     normal: &Normal<S>,
@@ -227,7 +227,6 @@ pub fn best_trees<S: Semiring>(
         (rule_at normal.now.rules n).cost ≡ 0 }
     requires labelled { AreLabelled (length labels.now) normal.now.rules }
     requires some { 0 < k }
-    requires trimmed { HaveTreesBelow S.product normal.now.rules }
     ensures best { IfOk result (λ xs. IsKBest S.product normal.now.rules labels.now k xs) }
     ensures cause { IfErr result (IsLevelCause S.LEVELLED S.product labels.now normal.now.rules k) }
 {

@@ -1,6 +1,6 @@
 // Lists whose start has the k best trees of rules in normal form, whatever other form the rules
 // have.
-ghost use Rattle.std.specs.Prelude.{◌≡◌, ℕ, ◌<◌, ◌≤◌, ◌+◌, ◌^◌, length, IfErr, IfOk, OnOk};
+ghost use Rattle.std.specs.Prelude.{◌≡◌, ℕ, ◌<◌, ◌≤◌, ◌+◌, ◌^◌, false, length, IfErr, IfNone, IfOk, IfSome, IsTrue, OnOk};
 ghost use Rattle.tib_grammar.specs.Forms.{AreNormal, IsDeterministic};
 ghost use Rattle.tib_grammar.specs.Range.{AreInRange};
 ghost use Rattle.tib_grammar_file.specs.Printed.{AreLabelled};
@@ -15,6 +15,7 @@ ghost use Rattle.tib_k_best.specs.Causes.{IsCause, IsFaultOf};
 ghost use Rattle.tib_k_best.specs.Trimmed.{HaveTreesBelow};
 ghost use Rattle.tib_k_best.specs.declared.asking.Form.TheVariants.{Deterministic};
 
+use crate::advancing::next_missing;
 use crate::error::KBestError;
 use crate::first::first_trees;
 use std::alloc::{AllocError, Global};
@@ -86,13 +87,29 @@ fn ask<S: Semiring>(alloc: Global, lists: &mut Lists, k: u32, form: Form) -> Res
     }
 }
 
-// Gives the start its k best trees.
+// Whether each state below a rule has a tree.
+fn have_trees_below(lists: &Lists) -> bool
+    requires few { length lists.now.rules < 2 ^ 32 }
+    requires sound { IsSound lists.now }
+    ensures yes { IsTrue result → AreTrimmed lists.now }
+    ensures no { result ≡ false → AreTrimmed lists.now → ⊥ }
+{
+    for rule in 0..lists.rules() as u32 {
+        if next_missing(lists, rule, 0) < lists.count(rule) {
+            return false;
+        }
+    }
+    true
+}
+
+// Gives the start its k best trees, and returns whether it could: if k is above 1, each state below
+// a rule has to have a tree.
 fn list_trees<S: Semiring>(
     alloc: Global,
     lists: &mut Lists,
     k: u32,
     form: Form,
-) -> Result<(), KBestError>
+) -> Result<bool, KBestError>
     requires few { length lists.old.rules < 2 ^ 32 }
     requires orderly { IsOrderly S.product lists.old.rules }
     requires form { form ≡ Deterministic → IsDeterministic lists.old.rules }
@@ -101,15 +118,16 @@ fn list_trees<S: Semiring>(
         lists.old.label_ranks (length lists.old.lists) }
     requires start { 0 < length lists.old.lists }
     requires some { 0 < k }
-    requires trimmed { 1 < k → HaveTreesBelow S.product lists.old.rules }
-    ensures best { OnOk result (IsKBest S.product lists.old.rules lists.old.labels k
-        (entries_of lists.new 0)) }
-    ensures fronts { OnOk result (form ≡ Deterministic → (q : ℕ) →
+    ensures best { IfOk result (λ could. IsTrue could → IsKBest S.product lists.old.rules
+        lists.old.labels k (entries_of lists.new 0)) }
+    ensures fronts { IfOk result (λ could. IsTrue could → form ≡ Deterministic → (q : ℕ) →
         IsFrontAt S.product lists.old.labels lists.old.rules q (entries_of lists.new q)) }
     ensures sound { OnOk result (IsSound lists.new) }
     ensures states { OnOk result (length lists.new.lists ≡ length lists.old.lists) }
-    ensures bound { OnOk result (form ≡ Deterministic → entries_held lists.new
-        ≤ length lists.old.lists + nodes_of (entries_of lists.new 0)) }
+    ensures bound { IfOk result (λ could. IsTrue could → form ≡ Deterministic →
+        entries_held lists.new ≤ length lists.old.lists + nodes_of (entries_of lists.new 0)) }
+    ensures not { IfOk result (λ could. could ≡ false →
+        HaveTreesBelow S.product lists.old.rules → ⊥) }
     ensures cause { IfErr result (IsCause S.product lists.old.labels lists.old.rules k) }
 {
     match first_trees::<S>(alloc, lists) {
@@ -117,15 +135,19 @@ fn list_trees<S: Semiring>(
         Err(error) => return Err(error),
     }
     if k == 1 {
-        return Ok(());
+        return Ok(true);
+    }
+    if !have_trees_below(lists) {
+        return Ok(false);
     }
     match ask::<S>(alloc, lists, k, form) {
-        Ok(()) => Ok(()),
+        Ok(()) => Ok(true),
         Err(error) => Err(fault_of(error)),
     }
 }
 
-// The lists of all states, where the list of the start has its k best trees.
+// The lists of all states, where the list of the start has its k best trees. None only if k is
+// above 1 and some state below a rule has no tree.
 pub(crate) fn lists_of_rules<'a, S: Semiring>(
     alloc: Global,
     rules: &'a [Rule<u32>],
@@ -134,7 +156,7 @@ pub(crate) fn lists_of_rules<'a, S: Semiring>(
     ranks: &'a [u32],
     k: u32,
     form: Form,
-) -> Result<Lists<'a>, KBestError>
+) -> Result<Option<Lists<'a>>, KBestError>
     requires few { length rules.now < 2 ^ 32 }
     requires start { 0 < states }
     requires normal { AreNormal rules.now }
@@ -144,21 +166,26 @@ pub(crate) fn lists_of_rules<'a, S: Semiring>(
     requires orderly { IsOrderly S.product rules.now }
     requires form { form ≡ Deterministic → IsDeterministic rules.now }
     requires some { 0 < k }
-    requires trimmed { 1 < k → HaveTreesBelow S.product rules.now }
-    ensures best { IfOk result (λ x. IsKBest S.product rules.now labels.now k (entries_of x 0)) }
-    ensures fronts { IfOk result (λ x. form ≡ Deterministic → (q : ℕ) →
-        IsFrontAt S.product labels.now rules.now q (entries_of x q)) }
-    ensures sound { IfOk result IsSound }
-    ensures states { IfOk result (λ x. length x.lists ≡ states) }
-    ensures bound { IfOk result (λ x. form ≡ Deterministic →
-        entries_held x ≤ states + nodes_of (entries_of x 0)) }
+    ensures best { IfOk result (λ found. IfSome found (λ x. IsKBest S.product rules.now labels.now
+        k (entries_of x 0))) }
+    ensures fronts { IfOk result (λ found. IfSome found (λ x. form ≡ Deterministic → (q : ℕ) →
+        IsFrontAt S.product labels.now rules.now q (entries_of x q))) }
+    ensures sound { IfOk result (λ found. IfSome found IsSound) }
+    ensures states { IfOk result (λ found. IfSome found (λ x. length x.lists ≡ states)) }
+    ensures bound { IfOk result (λ found. IfSome found (λ x. form ≡ Deterministic →
+        entries_held x ≤ states + nodes_of (entries_of x 0))) }
+    ensures none { IfOk result (λ found. IfNone found (HaveTreesBelow S.product rules.now → ⊥)) }
     ensures cause { IfErr result (IsCause S.product labels.now rules.now k) }
 {
     let Ok(mut lists) = empty(alloc, rules, states, labels, ranks) else {
         return Err(KBestError::OutOfMemory);
     };
-    match list_trees::<S>(alloc, &mut lists, k, form) {
-        Ok(()) => Ok(lists),
-        Err(error) => Err(error),
+    let could = match list_trees::<S>(alloc, &mut lists, k, form) {
+        Ok(could) => could,
+        Err(error) => return Err(error),
+    };
+    if !could {
+        return Ok(None);
     }
+    Ok(Some(lists))
 }

@@ -1,5 +1,5 @@
 // The best trees of rules.
-ghost use Rattle.std.specs.Prelude.{◌<◌, ◌^◌, length, IfErr, IfOk};
+ghost use Rattle.std.specs.Prelude.{◌<◌, ◌^◌, length, IfErr, IfNone, IfOk, IfSome};
 ghost use Rattle.tib_grammar.specs.Forms.{AreNormal};
 ghost use Rattle.tib_grammar.specs.Range.{AreInRange};
 ghost use Rattle.tib_grammar_file.specs.Printed.{AreLabelled};
@@ -18,7 +18,8 @@ use tib_cost::Semiring;
 use tib_grammar::Rule;
 use tib_tree::Labels;
 
-// The list of the k best trees of rules in normal form. An error may name any state.
+// The list of the k best trees of rules in normal form. None only if k is above 1 and some state
+// below a rule has no tree. An error may name any state.
 pub(crate) fn list_of_rules<S: Semiring>(
     alloc: Global,
     rules: &[Rule<u32>],
@@ -26,7 +27,7 @@ pub(crate) fn list_of_rules<S: Semiring>(
     labels: &Labels,
     ranks: &[u32],
     k: u32,
-) -> Result<List, KBestError>
+) -> Result<Option<List>, KBestError>
     requires few { length rules.now < 2 ^ 32 }
     requires start { 0 < states }
     requires normal { AreNormal rules.now }
@@ -35,21 +36,24 @@ pub(crate) fn list_of_rules<S: Semiring>(
     requires ranks { AreRanksOf labels.now ranks.now }
     requires orderly { IsOrderly S.product rules.now }
     requires some { 0 < k }
-    requires trimmed { 1 < k → HaveTreesBelow S.product rules.now }
-    ensures best { IfOk result (λ xs. IsKBest S.product rules.now labels.now k xs) }
+    ensures best { IfOk result (λ found. IfSome found (λ xs. IsKBest S.product rules.now labels.now
+        k xs)) }
+    ensures none { IfOk result (λ found. IfNone found (HaveTreesBelow S.product rules.now → ⊥)) }
     ensures cause { IfErr result (IsCause S.product labels.now rules.now k) }
 {
     match lists_of_rules::<S>(alloc, rules, states, labels, ranks, k, Form::Any) {
-        Ok(lists) => Ok(List::of_state(lists, 0)),
+        Ok(Some(lists)) => Ok(Some(List::of_state(lists, 0))),
+        Ok(None) => Ok(None),
         Err(error) => Err(error),
     }
 }
 
 /// The list of the k best trees of rules in normal form, over this number of states. `ranks` has
-/// the place of each label's text in order. If k is above 1, each state below a rule must have a
-/// tree. `TreeTooLarge` names a useful state that has among its k best trees one of more than
-/// 10,000 nodes; `OutOfMemory` comes if memory is refused. Worst case: that of `first_trees` and of
-/// `ask_best`; twice that, and one of `trim_rules`, if some state has a large tree.
+/// the place of each label's text in order. `TreeTooLarge` names a useful state that has among its
+/// k best trees one of more than 10,000 nodes; `OutOfMemory` comes if memory is refused. Worst
+/// case: O(r log r) comparisons of trees for r rules, and that of `ask_best`; twice that, and one
+/// of `trim_rules`, if some state has a large tree, or if k is above 1 and some state below a rule
+/// has no tree.
 pub fn best_of_rules<S: Semiring>(
     alloc: Global,
     rules: &[Rule<u32>],
@@ -66,18 +70,17 @@ pub fn best_of_rules<S: Semiring>(
     requires ranks { AreRanksOf labels.now ranks.now }
     requires orderly { IsOrderly S.product rules.now }
     requires some { 0 < k }
-    requires trimmed { 1 < k → HaveTreesBelow S.product rules.now }
     ensures best { IfOk result (λ xs. IsKBest S.product rules.now labels.now k xs) }
     ensures cause { IfErr result (IsUsefulCause S.product labels.now rules.now k) }
 {
     match list_of_rules::<S>(alloc, rules, states, labels, ranks, k) {
-        Ok(list) => Ok(list),
-        Err(KBestError::TreeTooLarge { .. }) => {
-            if states > u32::MAX as usize {
-                return Err(KBestError::OutOfMemory);
-            }
-            best_of_copy::<S>(alloc, rules, states as u32, labels, ranks, k)
-        }
-        Err(KBestError::OutOfMemory) => Err(KBestError::OutOfMemory),
+        Ok(Some(list)) => return Ok(list),
+        Err(KBestError::OutOfMemory) => return Err(KBestError::OutOfMemory),
+        Ok(None) => {}
+        Err(KBestError::TreeTooLarge { .. }) => {}
     }
+    if states > u32::MAX as usize {
+        return Err(KBestError::OutOfMemory);
+    }
+    best_of_copy::<S>(alloc, rules, states as u32, labels, ranks, k)
 }

@@ -1,5 +1,5 @@
 // The best trees of a grammar in deterministic form, with few entries for each.
-ghost use Rattle.std.specs.Prelude.{◌≡◌, ℕ, ◌<◌, ◌≤◌, ◌+◌, ◌^◌, [], false, length, map, IfErr, IfOk};
+ghost use Rattle.std.specs.Prelude.{◌≡◌, ℕ, ◌<◌, ◌≤◌, ◌+◌, ◌^◌, [], false, length, map, IfErr, IfNone, IfOk, IfSome};
 ghost use Rattle.std.proofs.Common.{get_or};
 ghost use Rattle.tib_grammar.specs.Forms.{AreNormal, IsDeterministic};
 ghost use Rattle.tib_grammar.specs.Range.{AreInRange};
@@ -108,7 +108,7 @@ impl LazyList {
 }
 
 // The lists of all states of rules in normal and in deterministic form, over this number of states.
-// An error may name any state.
+// None only if some state below a rule has no tree. An error may name any state.
 pub(crate) fn lazy_of_rules<S: Semiring>(
     alloc: Global,
     rules: &[Rule<u32>],
@@ -116,7 +116,7 @@ pub(crate) fn lazy_of_rules<S: Semiring>(
     labels: &Labels,
     ranks: &[u32],
     k: u32,
-) -> Result<LazyList, KBestError>
+) -> Result<Option<LazyList>, KBestError>
     requires few { length rules.now < 2 ^ 32 }
     requires start { 0 < states }
     requires normal { AreNormal rules.now }
@@ -126,17 +126,20 @@ pub(crate) fn lazy_of_rules<S: Semiring>(
     requires orderly { IsOrderly S.product rules.now }
     requires form { IsDeterministic rules.now }
     requires some { 0 < k }
-    requires trimmed { HaveTreesBelow S.product rules.now }
-    ensures best { IfOk result (λ ls. IsKBest S.product rules.now labels.now k (get_or ls 0 [])) }
-    ensures fronts { IfOk result (λ ls. (q : ℕ) → IsFrontAt S.product labels.now rules.now q
-        (get_or ls q [])) }
-    ensures states { IfOk result (λ ls. length ls ≡ states) }
-    ensures bound { IfOk result (λ ls. entries_in ls ≤ states + nodes_of (get_or ls 0 [])) }
+    ensures best { IfOk result (λ found. IfSome found (λ ls. IsKBest S.product rules.now labels.now
+        k (get_or ls 0 []))) }
+    ensures fronts { IfOk result (λ found. IfSome found (λ ls. (q : ℕ) →
+        IsFrontAt S.product labels.now rules.now q (get_or ls q []))) }
+    ensures states { IfOk result (λ found. IfSome found (λ ls. length ls ≡ states)) }
+    ensures bound { IfOk result (λ found. IfSome found (λ ls. entries_in ls
+        ≤ states + nodes_of (get_or ls 0 []))) }
+    ensures none { IfOk result (λ found. IfNone found (HaveTreesBelow S.product rules.now → ⊥)) }
     ensures cause { IfErr result (IsCause S.product labels.now rules.now k) }
 {
     let states = states as usize;
     match lists_of_rules::<S>(alloc, rules, states, labels, ranks, k, Form::Deterministic) {
-        Ok(lists) => Ok(LazyList::of_lists(lists)),
+        Ok(Some(lists)) => Ok(Some(LazyList::of_lists(lists))),
+        Ok(None) => Ok(None),
         Err(error) => Err(error),
     }
 }
@@ -172,7 +175,8 @@ fn lazy_of_useful<S: Semiring>(
     trimmed_has_trees::<S>();
     let kept = trimmed.states.len() as u32;
     match lazy_of_rules::<S>(alloc, &trimmed.rules, kept, labels, ranks, k) {
-        Ok(lists) => Ok(lists),
+        Ok(Some(lists)) => Ok(lists),
+        Ok(None) => unreachable!(),
         Err(error) => Err(renamed(error, &trimmed.states)),
     }
 }

@@ -78,7 +78,8 @@ pub(crate) fn best_of_useful<S: Semiring>(
     trimmed_has_trees::<S>();
     let kept = trimmed.states.len();
     match list_of_rules::<S>(alloc, &trimmed.rules, kept, labels, ranks, k) {
-        Ok(list) => Ok(list),
+        Ok(Some(list)) => Ok(list),
+        Ok(None) => unreachable!(),
         Err(error) => Err(renamed(error, &trimmed.states)),
     }
 }
