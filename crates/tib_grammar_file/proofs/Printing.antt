@@ -1,8 +1,8 @@
 -- One text printed after another.
 use Rattle.tib_cost.specs.declared.Scale.{Scale}
-use Rattle.std.proofs.Common.{◌≡◌, ℕ, ◌+◌, ◌-◌, ◌<◌, ◌≤◌, List, [], ◌∷◌, ◌++◌, length, get_or, take, drop, refl, ap, sym, ◌∙◌, subst, arith, append-nil, Option}
-use Rattle.std.specs.Prelude.{Some, None, Result, Ok, Err, Bool, true, false, cond, ◌==◌, ◌||◌}
-use Rattle.std.proofs.lemmas.List.{length-append, take_more, take-append-drop, take_all}
+use Rattle.std.proofs.Common.{◌≡◌, ℕ, ◌+◌, ◌<◌, ◌≤◌, List, [], ◌∷◌, ◌++◌, length, get_or, take, drop, refl, ap, sym, ◌∙◌, subst, arith, append-nil}
+use Rattle.std.specs.Prelude.{Some, Result, Ok, Err, Bool, true, false, cond, ◌==◌, ◌||◌}
+use Rattle.std.proofs.lemmas.List.{take_more, take-append-drop, take_all}
 use Rattle.tib_lex.specs.Grammar.{escape}
 use Rattle.std.specs.Prelude.{slice_get, Contains, zero, suc}
 use Rattle.std.specs.Str.{bytes_eq}
@@ -18,114 +18,21 @@ use Rattle.tib_grammar.specs.declared.Rule.{Rule}
 use Rattle.tib_lex.specs.Lists.{Each}
 use Rattle.std.specs.List.{All}
 use Rattle.tib_grammar_file.specs.Printed.{IsSymbolWithin, IsRuleWithin, LabelsBelow, AreLabelled, grammar_text, rules_text, is_held}
-use Rattle.tib_io.specs.Causes.{Rose}
-use Rattle.tib_io.specs.Writes.{Appends, Falls, Calm, Succeeds}
-use Rattle.tib_io.proofs.Pieces.{takes_more, front_first, front_later}
-use Rattle.tib_grammar_file.specs.Prints.{Prints}
+use Rattle.tib_io.specs.Writes.{SinkSeen}
+use Rattle.tib_io.specs.Wrote.{Wrote}
+use Rattle.tib_io.specs.Writing.{no_failure, wrote_none, wrote_as, wrote_same, joined, cut_off}
 use Rattle.tib_lex.proofs.Booleans.{or-true}
 use Rattle.tib_lex.proofs.Lists.{each_append}
 use Rattle.tib_lex.proofs.Places.{any_default}
 use Rattle.tib_grammar.proofs.Below.{below_split}
 
-nothing_appended : (old : Option (List ℕ)) → Appends old old []
-nothing_appended None = refl
-nothing_appended (Some old) = ap (λ (l : List ℕ). Some l) (sym (append-nil old))
-
-nothing_falls : (room : Option ℕ) → Falls room room 0
-nothing_falls None = refl
-nothing_falls (Some n) = (omega arith, ap (λ (k : ℕ). Some k) (omega arith))
-
-calm_none : (room : Option ℕ) (n before : ℕ) → Calm room n before before
-calm_none None n before = tt
-calm_none (Some free) n before = λ _ _. refl
-
-succeeds_ok : (T E : Type 0) (room : Option ℕ) (n before : ℕ) (t : T) → (let r : Result T E = Ok t in Succeeds room n before r)
-succeeds_ok T E None n before t = tt
-succeeds_ok T E (Some free) n before t = λ _ _. refl
-
 -- nothing is printed at first
-pub prints_nothing : (T E : Type 0) (old : Option (List ℕ)) (room : Option ℕ) (before : ℕ) (t : T) → (let r : Result T E = Ok t in Prints old old room room before before [] r)
-prints_nothing T E old room before t = record {
-  ok = record { written = nothing_appended old; free = nothing_falls room };
-  err = tt;
-  cause = tt;
-  later = omega arith;
-  calm = calm_none room 0 before;
-  succeeds = succeeds_ok T E room 0 before t;
-}
-
-calm_more : (f g : Option ℕ) (a b before mid now : ℕ) → Falls f g a → Calm f a before mid → Calm g b mid now → Calm f (a + b) before now
-calm_more None g a b before mid now p q r = tt
-calm_more (Some free) g a b before mid now p q r = λ fits below.
-    let h : Calm (Some (free - a)) b mid now = subst (λ (o : Option ℕ). Calm o b mid now) p.1 r in
-    let e : mid ≡ before = q (omega arith) below in
-    h (omega arith) (omega arith) ∙ e
-
-succeeds_more : (T E : Type 0) (f g : Option ℕ) (a b before mid : ℕ) (r : Result T E) → Falls f g a → Calm f a before mid → Succeeds g b mid r → Succeeds f (a + b) before r
-succeeds_more T E None g a b before mid r p q s = tt
-succeeds_more T E (Some free) g a b before mid r p q s = λ fits below.
-    let h : Succeeds (Some (free - a)) b mid r = subst (λ (o : Option ℕ). Succeeds o b mid r) p.1 s in
-    let e : mid ≡ before = q (omega arith) below in
-    h (omega arith) (omega arith)
-
-calm_less : (f : Option ℕ) (a b before now : ℕ) → a ≤ b → Calm f a before now → Calm f b before now
-calm_less None a b before now h q = tt
-calm_less (Some free) a b before now h q = λ fits below. q (omega arith) below
-
-succeeds_less : {T E : Type 0} (f : Option ℕ) (a b before : ℕ) (r : Result T E) → a ≤ b → Succeeds f a before r → Succeeds f b before r
-succeeds_less None a b before r h s = tt
-succeeds_less (Some free) a b before r h s = λ fits below. s (omega arith) below
-
-rose_later : (a b c : ℕ) → a ≤ b → Rose b c → Rose a c
-rose_later a b c h r = omega arith
-
--- one text, and then another
-pub prints_then : (T U E : Type 0) (w x y : Option (List ℕ)) (f g h : Option ℕ) (a b c : ℕ) (xs ys : List ℕ) (t : T) (r : Result U E) → (let first : Result T E = Ok t in Prints w x f g a b xs first) → Prints x y g h b c ys r → Prints w y f h a c (xs ++ ys) r
-prints_then T U E w x y f g h a b c xs ys t (Ok u) p q = record {
-  ok = takes_more w x y f g h xs ys p.ok q.ok;
-  err = tt;
-  cause = tt;
-  later = omega (arith, p.later, q.later);
-  calm = subst (λ (n : ℕ). Calm f n a c) (sym (length-append xs ys)) (calm_more f g (length xs) (length ys) a b c p.ok.free p.calm q.calm);
-  succeeds = subst (λ (n : ℕ). let r : Result U E = Ok u in Succeeds f n a r) (sym (length-append xs ys)) (succeeds_more U E f g (length xs) (length ys) a b (Ok u) p.ok.free p.calm q.succeeds);
-}
-prints_then T U E w x y f g h a b c xs ys t (Err e) p q = record {
-  ok = tt;
-  err = front_later w x y f g h xs ys p.ok q.err;
-  cause = rose_later a b c p.later q.cause;
-  later = omega (arith, p.later, q.later);
-  calm = subst (λ (n : ℕ). Calm f n a c) (sym (length-append xs ys)) (calm_more f g (length xs) (length ys) a b c p.ok.free p.calm q.calm);
-  succeeds = subst (λ (n : ℕ). let r : Result U E = Err e in Succeeds f n a r) (sym (length-append xs ys)) (succeeds_more U E f g (length xs) (length ys) a b (Err e) p.ok.free p.calm q.succeeds);
-}
-
--- a failure in a text is one in each text that begins with it
-pub prints_front : (T U E : Type 0) (w y : Option (List ℕ)) (f h : Option ℕ) (a c : ℕ) (xs ys : List ℕ) (e : E) → (let r : Result T E = Err e in Prints w y f h a c xs r) → (let r : Result U E = Err e in Prints w y f h a c (xs ++ ys) r)
-prints_front T U E w y f h a c xs ys e p = record {
-  ok = tt;
-  err = front_first w y f h xs ys p.err;
-  cause = p.cause;
-  later = p.later;
-  calm = calm_less f (length xs) (length (xs ++ ys)) a c (omega (arith, length-append xs ys)) p.calm;
-  succeeds = fails f (length xs) (length (xs ++ ys)) (omega (arith, length-append xs ys)) p.succeeds;
-}
-  where
-    fails : (f : Option ℕ) (m n : ℕ) → m ≤ n → (let r : Result T E = Err e in Succeeds f m a r) → (let r : Result U E = Err e in Succeeds f n a r)
-    fails None m n h s = tt
-    fails (Some free) m n h s = λ fits below. s (omega arith) below
+pub prints_nothing : (T E : Type 0) (a : SinkSeen) (t : T) → (let r : Result T E = Ok t in Wrote a a [] r)
+prints_nothing T E a t = let r : Result T E = Ok t in wrote_as a a [] [] tt t no_failure r refl refl refl (wrote_none a)
 
 -- another value is returned
-pub prints_as : (T U E : Type 0) (w y : Option (List ℕ)) (f h : Option ℕ) (a c : ℕ) (xs ys : List ℕ) (t : T) (u : U) → xs ≡ ys → (let r : Result T E = Ok t in Prints w y f h a c xs r) → (let r : Result U E = Ok u in Prints w y f h a c ys r)
-prints_as T U E w y f h a c xs ys t u same p = subst (λ (zs : List ℕ). let r : Result U E = Ok u in Prints w y f h a c zs r) same (record {
-  ok = p.ok;
-  err = tt;
-  cause = tt;
-  later = p.later;
-  calm = p.calm;
-  succeeds = succeeds_ok U E f (length xs) a u;
-})
-
-pub prints_same : (T E : Type 0) (w y : Option (List ℕ)) (f h : Option ℕ) (a c : ℕ) (xs ys : List ℕ) (r : Result T E) → xs ≡ ys → Prints w y f h a c xs r → Prints w y f h a c ys r
-prints_same T E w y f h a c xs ys r same p = subst (λ (zs : List ℕ). Prints w y f h a c zs r) same p
+pub prints_as : (T U E : Type 0) (a b : SinkSeen) (xs ys : List ℕ) (t : T) (u : U) → xs ≡ ys → (let r : Result T E = Ok t in Wrote a b xs r) → (let r : Result U E = Ok u in Wrote a b ys r)
+prints_as T U E a b xs ys t u same p = let q : Result T E = Ok t in let r : Result U E = Ok u in wrote_as a b xs ys t u q r refl refl same p
 
 -- escaped bytes, one after another
 pub escape-append : (xs ys : List ℕ) → escape (xs ++ ys) ≡ escape xs ++ escape ys
@@ -143,15 +50,16 @@ escape_step text n b h e = sym (ap escape (take_more text n 0 h ∙ ap (λ (c : 
 pub escape_parts : (text : List ℕ) (n : ℕ) → escape (take n text) ++ escape (drop n text) ≡ escape text
 escape_parts text n = sym (escape-append (take n text) (drop n text)) ∙ ap escape (take-append-drop n text)
 
-pub prints_done : (text : List ℕ) (k : ℕ) (T E : Type 0) (w y : Option (List ℕ)) (f h : Option ℕ) (a c : ℕ) (r : Result T E) → length text ≤ k → Prints w y f h a c (escape (take k text)) r → Prints w y f h a c (escape text) r
-prints_done text k T E w y f h a c r all p = prints_same T E w y f h a c (escape (take k text)) (escape text) r (ap escape (take_all k text all)) p
+pub prints_done : (text : List ℕ) (k : ℕ) (T E : Type 0) (a c : SinkSeen) (r : Result T E) → length text ≤ k → Wrote a c (escape (take k text)) r → Wrote a c (escape text) r
+prints_done text k T E a c r all p = wrote_same a c (escape (take k text)) (escape text) r (ap escape (take_all k text all)) p
 
--- the same over the states of one sink
-pub seq : {X : Type 0} (T U E : Type 0) (w : X → Option (List ℕ)) (f : X → Option ℕ) (n : X → ℕ) (a b c : X) (xs ys zs : List ℕ) (t : T) (r : Result U E) → xs ++ ys ≡ zs → (let first : Result T E = Ok t in Prints (w a) (w b) (f a) (f b) (n a) (n b) xs first) → Prints (w b) (w c) (f b) (f c) (n b) (n c) ys r → Prints (w a) (w c) (f a) (f c) (n a) (n c) zs r
-seq T U E w f n a b c xs ys zs t r e p q = prints_same U E (w a) (w c) (f a) (f c) (n a) (n c) (xs ++ ys) zs r e (prints_then T U E (w a) (w b) (w c) (f a) (f b) (f c) (n a) (n b) (n c) xs ys t r p q)
+-- one text, and then another, over the states of one sink
+pub seq : {X : Type 0} (T U E : Type 0) (seen : X → SinkSeen) (a b c : X) (xs ys zs : List ℕ) (t : T) (r : Result U E) → xs ++ ys ≡ zs → (let first : Result T E = Ok t in Wrote (seen a) (seen b) xs first) → Wrote (seen b) (seen c) ys r → Wrote (seen a) (seen c) zs r
+seq T U E seen a b c xs ys zs t r same p q = let first : Result T E = Ok t in joined (seen a) (seen b) (seen c) xs ys zs t first r refl same p q
 
-pub cut : {X : Type 0} (T U E : Type 0) (w : X → Option (List ℕ)) (f : X → Option ℕ) (n : X → ℕ) (a c : X) (xs ys zs : List ℕ) (e : E) → xs ++ ys ≡ zs → (let r : Result T E = Err e in Prints (w a) (w c) (f a) (f c) (n a) (n c) xs r) → (let r : Result U E = Err e in Prints (w a) (w c) (f a) (f c) (n a) (n c) zs r)
-cut T U E w f n a c xs ys zs e same p = let r : Result U E = Err e in prints_same U E (w a) (w c) (f a) (f c) (n a) (n c) (xs ++ ys) zs r same (prints_front T U E (w a) (w c) (f a) (f c) (n a) (n c) xs ys e p)
+-- a failure in a text is one in each text that begins with it
+pub cut : {X : Type 0} (T U E : Type 0) (seen : X → SinkSeen) (a c : X) (xs ys zs : List ℕ) (e : E) → xs ++ ys ≡ zs → (let r : Result T E = Err e in Wrote (seen a) (seen c) xs r) → (let r : Result U E = Err e in Wrote (seen a) (seen c) zs r)
+cut T U E seen a c xs ys zs e same p = let q : Result T E = Err e in let r : Result U E = Err e in cut_off (seen a) (seen c) xs ys zs e e q r refl refl same p
 
 or_false : (a b : Bool) → a ≡ false → b ≡ false → (a || b) ≡ false
 or_false true b e f = cc
@@ -186,8 +94,8 @@ not_held (x ∷ xs) text no_name =
 pub text_at : (names : List (List ℕ)) (n : ℕ) (text : List ℕ) → slice_get names n ≡ Some text → text ≡ get_or names n []
 text_at names n text e = sym (get_or_from_slice_get names n text [] e)
 
-pub fails_as : {X : Type 0} (T U E : Type 0) (w : X → Option (List ℕ)) (f : X → Option ℕ) (n : X → ℕ) (a c : X) (xs : List ℕ) (e : E) → (let r : Result T E = Err e in Prints (w a) (w c) (f a) (f c) (n a) (n c) xs r) → (let r : Result U E = Err e in Prints (w a) (w c) (f a) (f c) (n a) (n c) xs r)
-fails_as T U E w f n a c xs e p = cut T U E w f n a c xs [] xs e (append-nil xs) p
+pub fails_as : {X : Type 0} (T U E : Type 0) (seen : X → SinkSeen) (a c : X) (xs : List ℕ) (e : E) → (let r : Result T E = Err e in Wrote (seen a) (seen c) xs r) → (let r : Result U E = Err e in Wrote (seen a) (seen c) xs r)
+fails_as T U E seen a c xs e p = cut T U E seen a c xs [] xs e (append-nil xs) p
 
 trees_within : (names labels : List (List ℕ)) (ts : Trees (Symbol ℕ ℕ)) → HolesAreLeaves ts → LabelsBelow (length labels) ts → AllBelow (length names) (holes ts) → Each (λ p. IsSymbolWithin names labels p.0) (preorder ts)
 trees_within names labels none l b q = tt
@@ -212,9 +120,9 @@ pub grammar_within : (names labels others : List (List ℕ)) (rules all : List (
 grammar_within names labels others rules all same are r l b =
     subst (λ (ns : List (List ℕ)). All (IsRuleWithin ns labels) rules) (sym same) (subst (λ (rs : List (Rule ℕ)). All (IsRuleWithin others labels) rs) (sym are) (rules_within others labels all r l b))
 
-pub grammar_same : {T E : Type 0} {w y : Option (List ℕ)} {f h : Option ℕ} {a c : ℕ} {r : Result T E} (v u : Scale) (labels names : List (List ℕ)) (rules : List (Rule ℕ)) (g : GrammarOf) → v ≡ u → names ≡ g.names → rules ≡ g.rules → Prints w y f h a c ((get_or names 0 [] ++ 10 ∷ []) ++ rules_text v names labels rules) r → Prints w y f h a c (grammar_text u labels g) r
-grammar_same {T} {E} {w} {y} {f} {h} {a} {c} {r} v u labels names rules g e same are p =
-    prints_same T E w y f h a c ((get_or names 0 [] ++ 10 ∷ []) ++ rules_text v names labels rules) (grammar_text u labels g) r
+pub grammar_same : {T E : Type 0} {a c : SinkSeen} {r : Result T E} (v u : Scale) (labels names : List (List ℕ)) (rules : List (Rule ℕ)) (g : GrammarOf) → v ≡ u → names ≡ g.names → rules ≡ g.rules → Wrote a c ((get_or names 0 [] ++ 10 ∷ []) ++ rules_text v names labels rules) r → Wrote a c (grammar_text u labels g) r
+grammar_same {T} {E} {a} {c} {r} v u labels names rules g e same are p =
+    wrote_same a c ((get_or names 0 [] ++ 10 ∷ []) ++ rules_text v names labels rules) (grammar_text u labels g) r
     (ap (λ (b : Scale). (get_or names 0 [] ++ 10 ∷ []) ++ rules_text b names labels rules) e
     ∙ ap (λ (ns : List (List ℕ)). (get_or ns 0 [] ++ 10 ∷ []) ++ rules_text u ns labels rules) same
     ∙ ap (λ (rs : List (Rule ℕ)). (get_or g.names 0 [] ++ 10 ∷ []) ++ rules_text u g.names labels rs) are) p

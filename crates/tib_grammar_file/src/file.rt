@@ -1,7 +1,7 @@
 // Prints a file of the start and rules, however the lines of its rules are written.
 ghost use Rattle.std.specs.Prelude.{◌<◌, ℕ, List, length, All};
 ghost use Rattle.tib_cost.specs.declared.Scale.{Scale as ScaleOf};
-ghost use Rattle.tib_grammar_file.specs.Prints.{Prints};
+ghost use Rattle.tib_io.specs.Wrote.{Wrote};
 ghost use Rattle.tib_grammar_file.specs.FileText.{lines_text, file_text};
 
 use crate::pieces::put_start;
@@ -30,9 +30,8 @@ pub trait RuleNotation {
         labels: &Labels,
     ) -> Result<(), Failed>
         requires { fits names.now labels.now rule.now }
-        ensures { Prints (W.written out.old) (W.written out.new) (W.free out.old) (W.free out.new)
-            (W.faults out.old) (W.faults out.new) (rule_text scale names.now labels.now rule.now)
-            result };
+        ensures { Wrote (W.seen out.old) (W.seen out.new)
+            (rule_text scale names.now labels.now rule.now) result };
 }
 
 fn put_rules<N: RuleNotation, W: Sink>(
@@ -43,8 +42,7 @@ fn put_rules<N: RuleNotation, W: Sink>(
     labels: &Labels,
 ) -> Result<(), Failed>
     requires { All (N.fits names.now labels.now) rules.now }
-    ensures { Prints (W.written out.old) (W.written out.new) (W.free out.old) (W.free out.new)
-        (W.faults out.old) (W.faults out.new)
+    ensures { Wrote (W.seen out.old) (W.seen out.new)
         (lines_text (N.rule_text scale names.now labels.now) rules.now) result }
 {
     for rule in rules {
@@ -68,8 +66,7 @@ pub fn put_file<N: RuleNotation, W: Sink>(
 ) -> Result<(), Failed>
     requires start { 0 < length names.now }
     requires within { All (N.fits names.now labels.now) rules.now }
-    ensures { Prints (W.written out.old) (W.written out.new) (W.free out.old) (W.free out.new)
-        (W.faults out.old) (W.faults out.new)
+    ensures { Wrote (W.seen out.old) (W.seen out.new)
         (file_text (N.rule_text scale names.now labels.now) names.now rules.now) result }
 {
     match put_start(out, names) {

@@ -3,7 +3,7 @@
 ghost use Rattle.std.specs.Prelude.{◌<◌, ◌++◌, ℕ, [], ◌∷◌, length, decimal, true};
 ghost use Rattle.std.proofs.Common.{get_or};
 ghost use Rattle.tib_lex.specs.Grammar.{escape, label, spelling};
-ghost use Rattle.tib_grammar_file.specs.Prints.{Prints};
+ghost use Rattle.tib_io.specs.Wrote.{Wrote};
 ghost use Rattle.tib_grammar_file.specs.TreeText.{space, opening, closing};
 ghost use Rattle.tib_grammar_file.specs.Printed.{weight_text, cost_text};
 
@@ -15,16 +15,14 @@ use tib_io::{Failed, Sink, write_whole};
 /// Appends some bytes. If the sink fails, a front of them was appended. Worst case: O(n) steps for
 /// n bytes.
 pub fn put<W: Sink>(out: &mut W, piece: &[u8]) -> Result<(), Failed>
-    ensures { Prints (W.written out.old) (W.written out.new) (W.free out.old) (W.free out.new)
-        (W.faults out.old) (W.faults out.new) piece.now result }
+    ensures { Wrote (W.seen out.old) (W.seen out.new) piece.now result }
 {
     write_whole(out, piece)
 }
 
 // Appends a byte as it is in quotes.
 fn put_byte<W: Sink>(out: &mut W, byte: u8) -> Result<(), Failed>
-    ensures { Prints (W.written out.old) (W.written out.new) (W.free out.old) (W.free out.new)
-        (W.faults out.old) (W.faults out.new) (escape (byte ∷ [])) result }
+    ensures { Wrote (W.seen out.old) (W.seen out.new) (escape (byte ∷ [])) result }
 {
     if byte == b'"' || byte == b'\\' {
         put(out, &[b'\\', byte])
@@ -34,8 +32,7 @@ fn put_byte<W: Sink>(out: &mut W, byte: u8) -> Result<(), Failed>
 }
 
 fn put_escaped<W: Sink>(out: &mut W, text: &[u8]) -> Result<(), Failed>
-    ensures { Prints (W.written out.old) (W.written out.new) (W.free out.old) (W.free out.new)
-        (W.faults out.old) (W.faults out.new) (escape text.now) result }
+    ensures { Wrote (W.seen out.old) (W.seen out.new) (escape text.now) result }
 {
     for byte in text {
         match put_byte(out, *byte) {
@@ -48,8 +45,7 @@ fn put_escaped<W: Sink>(out: &mut W, text: &[u8]) -> Result<(), Failed>
 
 // Appends the bytes of a label and the quote after it.
 fn close_quote<W: Sink>(out: &mut W, text: &[u8]) -> Result<(), Failed>
-    ensures { Prints (W.written out.old) (W.written out.new) (W.free out.old) (W.free out.new)
-        (W.faults out.old) (W.faults out.new) (escape text.now ++ 34 ∷ []) result }
+    ensures { Wrote (W.seen out.old) (W.seen out.new) (escape text.now ++ 34 ∷ []) result }
 {
     match put_escaped(out, text) {
         Ok(()) => put(out, b"\""),
@@ -60,8 +56,7 @@ fn close_quote<W: Sink>(out: &mut W, text: &[u8]) -> Result<(), Failed>
 /// Appends a text in quotes, with a backslash before each quote and backslash in it. If the sink
 /// fails, a front of this was appended. Worst case: O(n) steps for n bytes.
 pub fn put_quoted<W: Sink>(out: &mut W, text: &[u8]) -> Result<(), Failed>
-    ensures { Prints (W.written out.old) (W.written out.new) (W.free out.old) (W.free out.new)
-        (W.faults out.old) (W.faults out.new) (spelling (label text.now)) result }
+    ensures { Wrote (W.seen out.old) (W.seen out.new) (spelling (label text.now)) result }
 {
     match put(out, b"\"") {
         Ok(()) => close_quote(out, text),
@@ -71,8 +66,7 @@ pub fn put_quoted<W: Sink>(out: &mut W, text: &[u8]) -> Result<(), Failed>
 
 // Appends a space before each of some trees but the first.
 pub(crate) fn put_space<W: Sink>(out: &mut W, k: u32) -> Result<(), Failed>
-    ensures { Prints (W.written out.old) (W.written out.new) (W.free out.old) (W.free out.new)
-        (W.faults out.old) (W.faults out.new) (space k) result }
+    ensures { Wrote (W.seen out.old) (W.seen out.new) (space k) result }
 {
     if k == 0 {
         put(out, b"")
@@ -83,8 +77,7 @@ pub(crate) fn put_space<W: Sink>(out: &mut W, k: u32) -> Result<(), Failed>
 
 // Appends what opens the children of a node, if it has some.
 pub(crate) fn put_opening<W: Sink>(out: &mut W, rank: u32) -> Result<(), Failed>
-    ensures { Prints (W.written out.old) (W.written out.new) (W.free out.old) (W.free out.new)
-        (W.faults out.old) (W.faults out.new) (opening rank) result }
+    ensures { Wrote (W.seen out.old) (W.seen out.new) (opening rank) result }
 {
     if rank == 0 {
         put(out, b"")
@@ -95,8 +88,7 @@ pub(crate) fn put_opening<W: Sink>(out: &mut W, rank: u32) -> Result<(), Failed>
 
 // Appends what closes them.
 pub(crate) fn put_closing<W: Sink>(out: &mut W, rank: u32) -> Result<(), Failed>
-    ensures { Prints (W.written out.old) (W.written out.new) (W.free out.old) (W.free out.new)
-        (W.faults out.old) (W.faults out.new) (closing rank) result }
+    ensures { Wrote (W.seen out.old) (W.seen out.new) (closing rank) result }
 {
     if rank == 0 {
         put(out, b"")
@@ -108,16 +100,14 @@ pub(crate) fn put_closing<W: Sink>(out: &mut W, rank: u32) -> Result<(), Failed>
 /// Appends a number in decimal. If the sink fails, a front of its digits was appended. Worst case:
 /// O(1) steps.
 pub fn put_number<W: Sink>(out: &mut W, number: u64) -> Result<(), Failed>
-    ensures { Prints (W.written out.old) (W.written out.new) (W.free out.old) (W.free out.new)
-        (W.faults out.old) (W.faults out.new) (decimal number) result }
+    ensures { Wrote (W.seen out.old) (W.seen out.new) (decimal number) result }
 {
     let mut digits = Buffer::new();
     put(out, digits.format(number).as_bytes())
 }
 
 fn put_weight<W: Sink>(out: &mut W, cost: Cost) -> Result<(), Failed>
-    ensures { Prints (W.written out.old) (W.written out.new) (W.free out.old) (W.free out.new)
-        (W.faults out.old) (W.faults out.new) (weight_text true cost) result }
+    ensures { Wrote (W.seen out.old) (W.seen out.new) (weight_text true cost) result }
 {
     match put(out, b" # ") {
         Ok(()) => put_number(out, cost.get()),
@@ -126,8 +116,7 @@ fn put_weight<W: Sink>(out: &mut W, cost: Cost) -> Result<(), Failed>
 }
 
 fn put_cost<W: Sink>(out: &mut W, scale: Scale, cost: Cost) -> Result<(), Failed>
-    ensures { Prints (W.written out.old) (W.written out.new) (W.free out.old) (W.free out.new)
-        (W.faults out.old) (W.faults out.new) (cost_text scale cost) result }
+    ensures { Wrote (W.seen out.old) (W.seen out.new) (cost_text scale cost) result }
 {
     if scale.is_weighted() {
         put_weight(out, scale.weight(cost))
@@ -139,8 +128,7 @@ fn put_cost<W: Sink>(out: &mut W, scale: Scale, cost: Cost) -> Result<(), Failed
 /// Appends the end of a rule's line: where weights are kept, ` # ` and the weight of the rule's
 /// cost, and a line feed. If the sink fails, a front of this was appended. Worst case: O(1) steps.
 pub fn put_end<W: Sink>(out: &mut W, scale: Scale, cost: Cost) -> Result<(), Failed>
-    ensures { Prints (W.written out.old) (W.written out.new) (W.free out.old) (W.free out.new)
-        (W.faults out.old) (W.faults out.new) (cost_text scale cost ++ 10 ∷ []) result }
+    ensures { Wrote (W.seen out.old) (W.seen out.new) (cost_text scale cost ++ 10 ∷ []) result }
 {
     match put_cost(out, scale, cost) {
         Ok(()) => put(out, b"\n"),
@@ -151,8 +139,7 @@ pub fn put_end<W: Sink>(out: &mut W, scale: Scale, cost: Cost) -> Result<(), Fai
 // Appends the line of the start.
 pub(crate) fn put_start<W: Sink>(out: &mut W, names: &Names) -> Result<(), Failed>
     requires { 0 < length names.now }
-    ensures { Prints (W.written out.old) (W.written out.new) (W.free out.old) (W.free out.new)
-        (W.faults out.old) (W.faults out.new) (get_or names.now 0 [] ++ 10 ∷ []) result }
+    ensures { Wrote (W.seen out.old) (W.seen out.new) (get_or names.now 0 [] ++ 10 ∷ []) result }
 {
     match put(out, names.text(0)) {
         Ok(()) => put(out, b"\n"),

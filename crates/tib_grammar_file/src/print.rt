@@ -1,9 +1,7 @@
 // Prints grammars.
-ghost use Rattle.std.specs.Prelude.{◌≤◌, ◌++◌, ℕ, [], ◌∷◌, length, OnOk, OnErr};
-ghost use Rattle.tib_io.specs.Causes.{Rose};
-ghost use Rattle.tib_io.specs.Writes.{Takes, TakesFront, Calm, Succeeds};
+ghost use Rattle.std.specs.Prelude.{◌++◌, ℕ, [], ◌∷◌, length};
 ghost use Rattle.tib_tree.specs.Trees.{only};
-ghost use Rattle.tib_grammar_file.specs.Prints.{Prints};
+ghost use Rattle.tib_io.specs.Wrote.{Wrote};
 ghost use Rattle.tib_grammar_file.specs.Printed.{IsSideWithin, IsRuleWithin, trees_text, cost_text, rule_text, grammar_text, AreLabelled};
 
 use crate::file::{RuleNotation, put_file};
@@ -23,10 +21,9 @@ fn put_right<W: Sink>(
     labels: &Labels,
 ) -> Result<(), Failed>
     requires { IsSideWithin names.now labels.now rule.now.right }
-    ensures { Prints (W.written out.old) (W.written out.new) (W.free out.old) (W.free out.new)
-        (W.faults out.old) (W.faults out.new)
-        (trees_text names.now labels.now (only rule.now.right) 0
-        ++ (cost_text scale rule.now.cost ++ 10 ∷ [])) result }
+    ensures { Wrote (W.seen out.old) (W.seen out.new)
+        (trees_text names.now labels.now (only rule.now.right) 0 ++ (cost_text scale rule.now.cost
+        ++ 10 ∷ [])) result }
 {
     match put_side::<GrammarSides, W>(out, &rule.right, names, labels) {
         Ok(()) => put_end(out, scale, rule.cost),
@@ -42,9 +39,8 @@ fn put_arrow<W: Sink>(
     labels: &Labels,
 ) -> Result<(), Failed>
     requires { IsSideWithin names.now labels.now rule.now.right }
-    ensures { Prints (W.written out.old) (W.written out.new) (W.free out.old) (W.free out.new)
-        (W.faults out.old) (W.faults out.new) (32 ∷ (45 ∷ (62 ∷ (32 ∷ [])))
-        ++ (trees_text names.now labels.now (only rule.now.right) 0
+    ensures { Wrote (W.seen out.old) (W.seen out.new)
+        (32 ∷ (45 ∷ (62 ∷ (32 ∷ []))) ++ (trees_text names.now labels.now (only rule.now.right) 0
         ++ (cost_text scale rule.now.cost ++ 10 ∷ []))) result }
 {
     match put(out, b" -> ") {
@@ -62,9 +58,8 @@ fn put_rule<W: Sink>(
     labels: &Labels,
 ) -> Result<(), Failed>
     requires { IsRuleWithin names.now labels.now rule.now }
-    ensures { Prints (W.written out.old) (W.written out.new) (W.free out.old) (W.free out.new)
-        (W.faults out.old) (W.faults out.new) (rule_text scale names.now labels.now rule.now)
-        result }
+    ensures { Wrote (W.seen out.old) (W.seen out.new)
+        (rule_text scale names.now labels.now rule.now) result }
 {
     match put(out, names.text(rule.left)) {
         Ok(()) => put_arrow(out, scale, rule, names, labels),
@@ -107,16 +102,8 @@ pub fn print_grammar<S: Semiring, W: Sink>(
     out: &mut W,
 ) -> Result<(), Failed>
     requires { AreLabelled (length labels.now) grammar.now.rules }
-    ensures ok { OnOk result (Takes (W.written out.old) (W.written out.new) (W.free out.old)
-        (W.free out.new) (grammar_text S.SCALE labels.now grammar.now)) }
-    ensures err { OnErr result (TakesFront (W.written out.old) (W.written out.new) (W.free out.old)
-        (W.free out.new) (grammar_text S.SCALE labels.now grammar.now)) }
-    ensures cause { OnErr result (Rose (W.faults out.old) (W.faults out.new)) }
-    ensures later { W.faults out.old ≤ W.faults out.new }
-    ensures calm { Calm (W.free out.old) (length (grammar_text S.SCALE labels.now grammar.now))
-        (W.faults out.old) (W.faults out.new) }
-    ensures succeeds { Succeeds (W.free out.old)
-        (length (grammar_text S.SCALE labels.now grammar.now)) (W.faults out.old) result }
+    ensures { Wrote (W.seen out.old) (W.seen out.new)
+        (grammar_text S.SCALE labels.now grammar.now) result }
 {
     grammar.is_sound();
     put_file::<GrammarRules, W>(out, S::SCALE, grammar.rule_list(), grammar.names(), labels)
@@ -132,9 +119,8 @@ pub fn print_rule<S: Semiring, W: Sink>(
     out: &mut W,
 ) -> Result<(), Failed>
     requires { IsRuleWithin names.now labels.now rule.now }
-    ensures { Prints (W.written out.old) (W.written out.new) (W.free out.old) (W.free out.new)
-        (W.faults out.old) (W.faults out.new) (rule_text S.SCALE names.now labels.now rule.now)
-        result }
+    ensures { Wrote (W.seen out.old) (W.seen out.new)
+        (rule_text S.SCALE names.now labels.now rule.now) result }
 {
     put_rule(out, S::SCALE, rule, names, labels)
 }

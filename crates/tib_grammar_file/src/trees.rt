@@ -3,7 +3,7 @@ ghost use Rattle.std.specs.Prelude.{◌≡◌, ◌≤◌, ◌<◌, ◌+◌, ◌+
 ghost use Rattle.tib_tree.specs.Trees.{Trees, preorder, count as count_of};
 ghost use Rattle.tib_grammar.specs.Items.{pair_of, pairs_of};
 ghost use Rattle.tib_grammar.specs.Sides.{Symbol};
-ghost use Rattle.tib_grammar_file.specs.Prints.{Prints};
+ghost use Rattle.tib_io.specs.Wrote.{Wrote};
 ghost use Rattle.tib_grammar_file.specs.TreeText.{IsWithin, IsSideWithin, space, opening, symbol_text, trees_text, side_text};
 
 use crate::pieces::{put_closing, put_opening, put_space};
@@ -28,8 +28,7 @@ pub trait Notation {
     /// Appends a label of this text. If the sink fails, a front of what is written for it was
     /// appended.
     fn put_label<W: Sink>(out: &mut W, names: &Names, text: &[u8]) -> Result<(), Failed>
-        ensures { Prints (W.written out.old) (W.written out.new) (W.free out.old) (W.free out.new)
-            (W.faults out.old) (W.faults out.new) (label_text names.now text.now) result };
+        ensures { Wrote (W.seen out.old) (W.seen out.new) (label_text names.now text.now) result };
 
     /// Appends a leaf. If the sink fails, a front of its text was appended.
     fn put_leaf<W: Sink>(
@@ -39,9 +38,8 @@ pub trait Notation {
         labels: &Labels,
     ) -> Result<(), Failed>
         requires { fits names.now labels.now leaf.now }
-        ensures { Prints (W.written out.old) (W.written out.new) (W.free out.old) (W.free out.new)
-            (W.faults out.old) (W.faults out.new) (leaf_text names.now labels.now leaf.now)
-            result };
+        ensures { Wrote (W.seen out.old) (W.seen out.new)
+            (leaf_text names.now labels.now leaf.now) result };
 }
 
 fn put_symbol<N: Notation, W: Sink>(
@@ -51,8 +49,7 @@ fn put_symbol<N: Notation, W: Sink>(
     labels: &Labels,
 ) -> Result<(), Failed>
     requires { IsWithin (N.fits names.now labels.now) (length labels.now) item.now }
-    ensures { Prints (W.written out.old) (W.written out.new) (W.free out.old) (W.free out.new)
-        (W.faults out.old) (W.faults out.new)
+    ensures { Wrote (W.seen out.old) (W.seen out.new)
         (symbol_text (N.label_text names.now) (N.leaf_text names.now labels.now) labels.now
         (pair_of item.now).0) result }
 {
@@ -79,10 +76,9 @@ fn put_spaced<N: Notation, W: Sink>(
     labels: &Labels,
 ) -> Result<(), Failed>
     requires { IsWithin (N.fits names.now labels.now) (length labels.now) item.now }
-    ensures { Prints (W.written out.old) (W.written out.new) (W.free out.old) (W.free out.new)
-        (W.faults out.old) (W.faults out.new) (space k
-        ++ symbol_text (N.label_text names.now) (N.leaf_text names.now labels.now) labels.now
-        (pair_of item.now).0) result }
+    ensures { Wrote (W.seen out.old) (W.seen out.new)
+        (space k ++ symbol_text (N.label_text names.now) (N.leaf_text names.now labels.now)
+        labels.now (pair_of item.now).0) result }
 {
     match put_space(out, k) {
         Ok(()) => put_symbol::<N, W>(out, item, names, labels),
@@ -99,10 +95,9 @@ fn put_head<N: Notation, W: Sink>(
     labels: &Labels,
 ) -> Result<(), Failed>
     requires { IsWithin (N.fits names.now labels.now) (length labels.now) item.now }
-    ensures { Prints (W.written out.old) (W.written out.new) (W.free out.old) (W.free out.new)
-        (W.faults out.old) (W.faults out.new) ((space k
-        ++ symbol_text (N.label_text names.now) (N.leaf_text names.now labels.now) labels.now
-        (pair_of item.now).0) ++ opening (pair_of item.now).1) result }
+    ensures { Wrote (W.seen out.old) (W.seen out.new)
+        ((space k ++ symbol_text (N.label_text names.now) (N.leaf_text names.now labels.now)
+        labels.now (pair_of item.now).0) ++ opening (pair_of item.now).1) result }
 {
     match put_spaced::<N, W>(out, k, item, names, labels) {
         Ok(()) => put_opening(out, rank_of(item)),
@@ -128,12 +123,10 @@ fn put_trees<N: Notation, W: Sink>(
         (ts : Trees (Symbol ℕ N.Leaf)) (ys : List (Symbol ℕ N.Leaf × ℕ)) →
         pairs_of (drop at items.now) ≡ preorder ts ++ ys → count_of ts ≡ count →
         n ≡ at + length (preorder ts)) }
-    ensures prints { (ts : Trees (Symbol ℕ N.Leaf)) (ys : List (Symbol ℕ N.Leaf × ℕ)) →
-        pairs_of (drop at items.now) ≡ preorder ts ++ ys → count_of ts ≡ count →
-        Prints (W.written out.old) (W.written out.new) (W.free out.old) (W.free out.new)
-        (W.faults out.old) (W.faults out.new)
-        (trees_text (symbol_text (N.label_text names.now) (N.leaf_text names.now labels.now)
-        labels.now) ts 0) result }
+    ensures prints { (ts : Trees (Symbol ℕ N.Leaf)) (ys : List (Symbol ℕ N.Leaf × ℕ)) → pairs_of
+        (drop at items.now) ≡ preorder ts ++ ys → count_of ts ≡ count → Wrote (W.seen out.old)
+        (W.seen out.new) (trees_text (symbol_text (N.label_text names.now) (N.leaf_text names.now
+        labels.now) labels.now) ts 0) result }
 {
     let mut next = at;
     for k in 0..count {
@@ -166,8 +159,7 @@ pub fn put_side<N: Notation, W: Sink>(
     labels: &Labels,
 ) -> Result<(), Failed>
     requires { IsSideWithin (N.fits names.now labels.now) (length labels.now) side.now }
-    ensures { Prints (W.written out.old) (W.written out.new) (W.free out.old) (W.free out.new)
-        (W.faults out.old) (W.faults out.new)
+    ensures { Wrote (W.seen out.old) (W.seen out.new)
         (side_text (symbol_text (N.label_text names.now) (N.leaf_text names.now labels.now)
         labels.now) side.now) result }
 {

@@ -3,7 +3,7 @@ use Rattle.std.proofs.Common.{◌≡◌, ℕ, ◌+◌, ◌-◌, ◌≤◌, List,
 use Rattle.std.specs.Prelude.{Some, None}
 use Rattle.std.proofs.Math.Seq.{take-length as take_length, take-append-add}
 use Rattle.std.proofs.lemmas.List.{take-append-le}
-use Rattle.tib_io.specs.Writes.{Appends, Falls, Takes, TakesFront}
+use Rattle.tib_io.specs.Writes.{SinkSeen, Appends, Falls, Takes, TakesFront}
 
 appends_more : (a b c : Option (List ℕ)) (xs ys : List ℕ) → Appends a b xs → Appends b c ys →
     Appends a c (xs ++ ys)
@@ -22,35 +22,34 @@ falls_more (Some old) b c m n p q =
     (omega (arith, p.0, h.0), h.1 ∙ ap (λ (k : ℕ). Some k) e)
 
 -- two pieces that were taken one after the other were taken as one
-pub takes_more : (w x y : Option (List ℕ)) (f g h : Option ℕ) (xs ys : List ℕ) → Takes w x f g xs →
-    Takes x y g h ys → Takes w y f h (xs ++ ys)
-takes_more w x y f g h xs ys p q = record {
-  written = appends_more w x y xs ys p.written q.written;
+pub takes_more : (a b c : SinkSeen) (xs ys : List ℕ) → Takes a b xs → Takes b c ys →
+    Takes a c (xs ++ ys)
+takes_more a b c xs ys p q = record {
+  written = appends_more a.written b.written c.written xs ys p.written q.written;
   free =
-      let all : Falls f h (length xs + length ys) = falls_more f g h (length xs) (length ys) p.free q.free in
+      let all : Falls a.free c.free (length xs + length ys) =
+      falls_more a.free b.free c.free (length xs) (length ys) p.free q.free in
       rw length-append all;
 }
 
 -- a whole piece is a front of itself
-pub front_whole : (w y : Option (List ℕ)) (f h : Option ℕ) (xs : List ℕ) → Takes w y f h xs →
-    TakesFront w y f h xs
-front_whole w y f h xs p =
+pub front_whole : (a b : SinkSeen) (xs : List ℕ) → Takes a b xs → TakesFront a b xs
+front_whole a b xs p =
     record { count = length xs; within = omega arith; front = rw take_length p }
 
 -- a whole piece, and then a front of the next
-pub front_later : (w x y : Option (List ℕ)) (f g h : Option ℕ) (xs ys : List ℕ) → Takes w x f g xs →
-    TakesFront x y g h ys → TakesFront w y f h (xs ++ ys)
-front_later w x y f g h xs ys p q =
+pub front_later : (a b c : SinkSeen) (xs ys : List ℕ) → Takes a b xs → TakesFront b c ys →
+    TakesFront a c (xs ++ ys)
+front_later a b c xs ys p q =
     let n : ℕ = q.count in
-    let all : Takes w y f h (xs ++ take n ys) = takes_more w x y f g h xs (take n ys) p q.front in
+    let all : Takes a c (xs ++ take n ys) = takes_more a b c xs (take n ys) p q.front in
     let le : n ≤ length ys = q.within in
     let e : length (xs ++ ys) ≡ length xs + length ys = length-append xs ys in
     record { count = length xs + n; within = omega arith; front = rw (take-append-add xs ys n) all }
 
 -- a front of the first piece is a front of all
-pub front_first : (w y : Option (List ℕ)) (f h : Option ℕ) (xs ys : List ℕ) →
-    TakesFront w y f h xs → TakesFront w y f h (xs ++ ys)
-front_first w y f h xs ys p =
+pub front_first : (a b : SinkSeen) (xs ys : List ℕ) → TakesFront a b xs → TakesFront a b (xs ++ ys)
+front_first a b xs ys p =
     let n : ℕ = p.count in
     let le : n ≤ length xs = p.within in
     let e : length (xs ++ ys) ≡ length xs + length ys = length-append xs ys in

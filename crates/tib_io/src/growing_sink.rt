@@ -1,6 +1,7 @@
 // A sink in memory that grows.
 ghost use Rattle.std.specs.Prelude.{◌≡◌, ◌≤◌, Some, None, [], true, false, IsOk, OnErr, OnOk, MatchResult};
 ghost use Rattle.tib_io.specs.Causes.{Rose};
+ghost use Rattle.tib_io.specs.Memory.{seen_of};
 ghost use Rattle.tib_io.specs.Writes.{Takes, Calm};
 
 use crate::{Failed, Sink};
@@ -44,13 +45,7 @@ impl GrowingSink {
 }
 
 impl Sink for GrowingSink {
-    ghost written = { λ s. Some s.bytes };
-
-    ghost faults = { λ s. s.faults };
-
-    ghost finished = { λ s. s.finished };
-
-    ghost free = { λ _. None };
+    ghost seen = { seen_of };
 
     fn write(&mut self, piece: &[u8]) -> Result<usize, Failed> {
         self.finished = false;
@@ -64,7 +59,7 @@ impl Sink for GrowingSink {
     }
 
     fn finish(&mut self) -> Result<(), Failed>
-        ensures taken { Takes (Some self.old.bytes) (Some self.new.bytes) None None [] }
+        ensures taken { Takes (seen_of self.old) (seen_of self.new) [] }
         ensures finished { MatchResult result (λ _. self.new.finished ≡ true) (λ _.
             self.new.finished ≡ false) }
         ensures later { self.old.faults ≤ self.new.faults }

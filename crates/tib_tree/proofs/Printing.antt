@@ -7,12 +7,13 @@ use Rattle.tib_tree.specs.Filled.{nodes_at, nodes_of_tree}
 use Rattle.tib_tree.specs.Growth.{text_at, LabelsBelow}
 use Rattle.tib_tree.specs.Printed.{text_from, label_text, gap_text, in_parentheses, behind_space, trees_text, tree_text}
 use Rattle.tib_tree.specs.declared.preorder.Node.{Node}
-use Rattle.std.specs.Prelude.{Option, Result, Ok, Err, Some, slice_get}
+use Rattle.std.specs.Prelude.{Result, Ok, Err, Some, slice_get}
 use Rattle.std.proofs.lemmas.Option.{get_or_from_slice_get}
 use Rattle.std.specs.List.{All}
 use Rattle.std.proofs.lemmas.List.{drop_all, take_all, length-drop}
 use Rattle.std.proofs.lemmas.List.Elements.{All-nil, All-cons, All-append, All-drop}
-use Rattle.tib_tree.specs.Wrote.{Wrote}
+use Rattle.tib_io.specs.Writes.{SinkSeen}
+use Rattle.tib_io.specs.Wrote.{Wrote}
 use Rattle.tib_tree.proofs.Writing.{HasWritten, no_failure, wrote_none, goes_on, joined, stopped}
 
 abbrev closes : ℕ → List ℕ
@@ -101,33 +102,33 @@ pub printed_step : (labels : List (List ℕ)) (above : ℕ) (nodes : List Node) 
 printed_step labels above nodes i d text h = let s : i + 1 ≡ suc i = omega arith in rw (s, drop-cons nodes i d) refl
 
 -- what was printed so far
-pub record SoFar (labels : List (List ℕ)) (w x : Option (List ℕ)) (f g : Option ℕ) (a b : ℕ) (above : ℕ) (left all : List Node) : Type 0 where
+pub record SoFar (labels : List (List ℕ)) (a b : SinkSeen) (above : ℕ) (left all : List Node) : Type 0 where
   pub text : List ℕ
-  pub wrote : HasWritten w x f g a b text
+  pub wrote : HasWritten a b text
   pub whole : text ++ text_from labels above left ≡ text_from labels 0 all
 
-pub starts : (labels : List (List ℕ)) (w : Option (List ℕ)) (f : Option ℕ) (a : ℕ) (all : List Node) → SoFar labels w w f f a a 0 all all
-starts labels w f a all = record { text = []; wrote = wrote_none w f a; whole = refl }
+pub starts : (labels : List (List ℕ)) (a : SinkSeen) (all : List Node) → SoFar labels a a 0 all all
+starts labels a all = record { text = []; wrote = wrote_none a; whole = refl }
 
-pub next : {T E : Type 0} (labels : List (List ℕ)) (w x y : Option (List ℕ)) (f g h : Option ℕ) (a b c : ℕ) (above i : ℕ) (d : Node) (all : List Node) (done : T) (r : Result T E) → i < length all → r ≡ Ok done → SoFar labels w x f g a b above (drop i all) all → Wrote x y g h b c (gap_text above (get_or all i d).depth ++ label_text (text_at labels (get_or all i d).label)) r → SoFar labels w y f h a c (get_or all i d).depth (drop (i + 1) all) all
-next labels w x y f g h a b c above i d all done r lt is so piece =
+pub next : {T E : Type 0} (labels : List (List ℕ)) (a b c : SinkSeen) (above i : ℕ) (d : Node) (all : List Node) (done : T) (r : Result T E) → i < length all → r ≡ Ok done → SoFar labels a b above (drop i all) all → Wrote b c (gap_text above (get_or all i d).depth ++ label_text (text_at labels (get_or all i d).label)) r → SoFar labels a c (get_or all i d).depth (drop (i + 1) all) all
+next labels a b c above i d all done r lt is so piece =
     let one : List ℕ = gap_text above (get_or all i d).depth ++ label_text (text_at labels (get_or all i d).label) in
     record {
       text = so.text ++ one;
-      wrote = goes_on w x y f g h a b c so.text one (so.text ++ one) done r is refl so.wrote piece;
+      wrote = goes_on a b c so.text one (so.text ++ one) done r is refl so.wrote piece;
       whole = append_assoc so.text one (text_from labels (get_or all i d).depth (drop (i + 1) all)) ∙ ap (λ (l : List ℕ). so.text ++ l) (sym (printed_step labels above all i d [] lt)) ∙ so.whole;
     }
 
-pub fails : {T D S E : Type 0} (labels : List (List ℕ)) (w x y : Option (List ℕ)) (f g h : Option ℕ) (a b c : ℕ) (above i : ℕ) (d : Node) (all : List Node) (e : D) (k : E) (q : Result T D) (r : Result S E) → i < length all → q ≡ Err e → r ≡ Err k → SoFar labels w x f g a b above (drop i all) all → Wrote x y g h b c (gap_text above (get_or all i d).depth ++ label_text (text_at labels (get_or all i d).label)) q → Wrote w y f h a c (text_from labels 0 all) r
-fails labels w x y f g h a b c above i d all e k q r lt is failed so piece =
+pub fails : {T D S E : Type 0} (labels : List (List ℕ)) (a b c : SinkSeen) (above i : ℕ) (d : Node) (all : List Node) (e : D) (k : E) (q : Result T D) (r : Result S E) → i < length all → q ≡ Err e → r ≡ Err k → SoFar labels a b above (drop i all) all → Wrote b c (gap_text above (get_or all i d).depth ++ label_text (text_at labels (get_or all i d).label)) q → Wrote a c (text_from labels 0 all) r
+fails labels a b c above i d all e k q r lt is failed so piece =
     let one : List ℕ = gap_text above (get_or all i d).depth ++ label_text (text_at labels (get_or all i d).label) in
     let left : List ℕ = text_from labels (get_or all i d).depth (drop (i + 1) all) in
-    stopped w x y f g h a b c so.text one left (text_from labels 0 all) e k q r is failed
+    stopped a b c so.text one left (text_from labels 0 all) e k q r is failed
     (append_assoc so.text one left ∙ ap (λ (l : List ℕ). so.text ++ l) (sym (printed_step labels above all i d [] lt)) ∙ so.whole) so.wrote piece
 
-pub closes_all : {T E : Type 0} (labels : List (List ℕ)) (w x y : Option (List ℕ)) (f g h : Option ℕ) (a b c : ℕ) (above i : ℕ) (all : List Node) (r : Result T E) → length all ≤ i → SoFar labels w x f g a b above (drop i all) all → Wrote x y g h b c (replicate above 41) r → Wrote w y f h a c (text_from labels 0 all) r
-closes_all labels w x y f g h a b c above i all r le so piece =
-    joined w x y f g h a b c so.text (replicate above 41) (text_from labels 0 all) tt no_failure r refl
+pub closes_all : {T E : Type 0} (labels : List (List ℕ)) (a b c : SinkSeen) (above i : ℕ) (all : List Node) (r : Result T E) → length all ≤ i → SoFar labels a b above (drop i all) all → Wrote b c (replicate above 41) r → Wrote a c (text_from labels 0 all) r
+closes_all labels a b c above i all r le so piece =
+    joined a b c so.text (replicate above 41) (text_from labels 0 all) tt no_failure r refl
     (ap (λ (ns : List Node). so.text ++ text_from labels above ns) (sym (drop_all i all le)) ∙ so.whole) so.wrote piece
 
 -- the labels of a tree's nodes are in the table

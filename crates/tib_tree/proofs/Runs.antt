@@ -1,6 +1,6 @@
 -- Bytes in quotes, run by run.
-use Rattle.std.proofs.Common.{◌≡◌, ℕ, ◌+◌, ◌-◌, ◌<◌, ◌≤◌, false, List, [], ◌∷◌, ◌++◌, length, take, drop, inl, inr, refl, ap, sym, ◌∙◌, subst, arith, suc, zero}
-use Rattle.std.specs.Prelude.{◌||◌, ◌==◌, replicate, nat_lt, slice_get, Some, Option, Result}
+use Rattle.std.proofs.Common.{◌≡◌, ℕ, ◌+◌, ◌-◌, ◌<◌, ◌≤◌, false, List, [], ◌∷◌, ◌++◌, length, take, drop, inl, inr, refl, ap, sym, ◌∙◌, arith, suc, zero}
+use Rattle.std.specs.Prelude.{◌||◌, ◌==◌, replicate, nat_lt, slice_get, Some}
 use Rattle.std.specs.List.{prefix_len}
 use Rattle.std.proofs.Math.Seq.{take-add}
 use Rattle.tib_lex.specs.Grammar.{escape}
@@ -8,7 +8,6 @@ use Rattle.std.proofs.lemmas.Bool.Decides.{nat_tests}
 use Rattle.std.proofs.lemmas.List.{take-append-drop, take_all, length-drop}
 use Rattle.std.proofs.lemmas.Option.{get_or_from_slice_get}
 use Rattle.tib_tree.specs.Growth.{text_at}
-use Rattle.tib_tree.specs.Wrote.{Wrote}
 use Rattle.tib_tree.specs.Printed.{is_plain_byte, backslash_for, IsRun, gap_text, label_text}
 use Rattle.tib_lex.proofs.Booleans.{bool_cases}
 
@@ -76,7 +75,3 @@ escape_rest xs at end h k =
 
 pub escape_on : (xs : List ℕ) (at n : ℕ) → escape (take at xs) ++ escape (take (at + n - at) (drop at xs)) ≡ escape (take (at + n) xs)
 escape_on xs at n = let e : at + (at + n - at) ≡ at + n = omega arith in escape_more xs at (at + n - at) ∙ ap (λ (m : ℕ). escape (take m xs)) e
-
--- the same text
-pub wrote_same : {T E : Type 0} (w x : Option (List ℕ)) (f g : Option ℕ) (a b : ℕ) (xs ys : List ℕ) (r : Result T E) → xs ≡ ys → Wrote w x f g a b xs r → Wrote w x f g a b ys r
-wrote_same w x f g a b xs ys r e h = subst (λ (l : List ℕ). Wrote w x f g a b l r) e h

@@ -16,8 +16,6 @@ pub mod Filled
 pub mod Printed
 pub mod TreesText
 pub mod Laws
-pub mod Wrote
-pub mod Writing
 pub mod Recent
 pub mod Shaped
 -- The order of trees.

@@ -4,7 +4,7 @@ ghost use Rattle.std.specs.List.{prefix_len};
 ghost use Rattle.tib_lex.specs.Grammar.{IsName, is_name as is_name_text, escape, spelling, label};
 ghost use Rattle.tib_tree.specs.Printed.{label_text, tree_text, is_plain_byte, IsRun, backslash_for, gap_text, text_from};
 ghost use Rattle.tib_tree.specs.Growth.{text_at, HasLabels};
-ghost use Rattle.tib_tree.specs.Wrote.{Wrote};
+ghost use Rattle.tib_io.specs.Wrote.{Wrote};
 
 use crate::labels::Labels;
 use crate::preorder::{Node, Tree};
@@ -23,8 +23,7 @@ pub fn needs_quotes(text: &[u8]) -> bool
 
 // Writes a piece.
 fn print_piece<W: Sink>(out: &mut W, piece: &[u8]) -> Result<(), Failed>
-    ensures { Wrote (W.written out.old) (W.written out.new) (W.free out.old) (W.free out.new)
-        (W.faults out.old) (W.faults out.new) piece.now result }
+    ensures { Wrote (W.seen out.old) (W.seen out.new) piece.now result }
 {
     write_whole(out, piece)
 }
@@ -59,8 +58,7 @@ fn run_length(bytes: &[u8]) -> usize
 
 fn print_backslash<W: Sink>(out: &mut W, run: &[u8]) -> Result<(), Failed>
     requires { 0 < length run.now }
-    ensures { Wrote (W.written out.old) (W.written out.new) (W.free out.old) (W.free out.new)
-        (W.faults out.old) (W.faults out.new) (backslash_for run.now) result }
+    ensures { Wrote (W.seen out.old) (W.seen out.new) (backslash_for run.now) result }
 {
     if is_plain(run[0]) {
         return print_piece(out, &run[..0]);
@@ -72,8 +70,7 @@ fn print_backslash<W: Sink>(out: &mut W, run: &[u8]) -> Result<(), Failed>
 fn print_run<W: Sink>(out: &mut W, run: &[u8]) -> Result<(), Failed>
     requires some { 0 < length run.now }
     requires run { IsRun run.now }
-    ensures { Wrote (W.written out.old) (W.written out.new) (W.free out.old) (W.free out.new)
-        (W.faults out.old) (W.faults out.new) (escape run.now) result }
+    ensures { Wrote (W.seen out.old) (W.seen out.new) (escape run.now) result }
 {
     match print_backslash(out, run) {
         Ok(()) => print_piece(out, run),
@@ -83,8 +80,7 @@ fn print_run<W: Sink>(out: &mut W, run: &[u8]) -> Result<(), Failed>
 
 // Writes the bytes of a label as they are in quotes.
 fn print_escaped<W: Sink>(out: &mut W, text: &[u8]) -> Result<(), Failed>
-    ensures { Wrote (W.written out.old) (W.written out.new) (W.free out.old) (W.free out.new)
-        (W.faults out.old) (W.faults out.new) (escape text.now) result }
+    ensures { Wrote (W.seen out.old) (W.seen out.new) (escape text.now) result }
 {
     let mut at = 0;
     while at < text.len() {
@@ -98,8 +94,7 @@ fn print_escaped<W: Sink>(out: &mut W, text: &[u8]) -> Result<(), Failed>
 }
 
 fn print_quoted<W: Sink>(out: &mut W, text: &[u8]) -> Result<(), Failed>
-    ensures { Wrote (W.written out.old) (W.written out.new) (W.free out.old) (W.free out.new)
-        (W.faults out.old) (W.faults out.new) (spelling (label text.now)) result }
+    ensures { Wrote (W.seen out.old) (W.seen out.new) (spelling (label text.now)) result }
 {
     match print_piece(out, b"\"") {
         Ok(()) => match print_escaped(out, text) {
@@ -114,8 +109,7 @@ fn print_quoted<W: Sink>(out: &mut W, text: &[u8]) -> Result<(), Failed>
 /// where the sink does, and then a front of the text was written. Takes no memory. Worst case: O(n)
 /// steps for n bytes.
 pub fn print_label<W: Sink>(out: &mut W, text: &[u8]) -> Result<(), Failed>
-    ensures { Wrote (W.written out.old) (W.written out.new) (W.free out.old) (W.free out.new)
-        (W.faults out.old) (W.faults out.new) (label_text text.now) result }
+    ensures { Wrote (W.seen out.old) (W.seen out.new) (label_text text.now) result }
 {
     if needs_quotes(text) {
         return print_quoted(out, text);
@@ -124,8 +118,7 @@ pub fn print_label<W: Sink>(out: &mut W, text: &[u8]) -> Result<(), Failed>
 }
 
 fn print_closes<W: Sink>(out: &mut W, count: u32) -> Result<(), Failed>
-    ensures { Wrote (W.written out.old) (W.written out.new) (W.free out.old) (W.free out.new)
-        (W.faults out.old) (W.faults out.new) (replicate count 41) result }
+    ensures { Wrote (W.seen out.old) (W.seen out.new) (replicate count 41) result }
 {
     let mut done = 0;
     while done < count {
@@ -153,8 +146,7 @@ fn short_gap(closes: u32) -> Option<&'static [u8]>
 
 // Writes what comes between the label of a node and that of the next one.
 fn print_gap<W: Sink>(out: &mut W, above: u32, depth: u32) -> Result<(), Failed>
-    ensures { Wrote (W.written out.old) (W.written out.new) (W.free out.old) (W.free out.new)
-        (W.faults out.old) (W.faults out.new) (gap_text above depth) result }
+    ensures { Wrote (W.seen out.old) (W.seen out.new) (gap_text above depth) result }
 {
     if above < depth {
         return print_piece(out, b"(");
@@ -172,9 +164,8 @@ fn print_gap<W: Sink>(out: &mut W, above: u32, depth: u32) -> Result<(), Failed>
 // Writes a node after one at the depth `above`.
 fn print_node<W: Sink>(out: &mut W, labels: &Labels, above: u32, node: Node) -> Result<(), Failed>
     requires { node.label < length labels.now }
-    ensures { Wrote (W.written out.old) (W.written out.new) (W.free out.old) (W.free out.new)
-        (W.faults out.old) (W.faults out.new) (gap_text above node.depth
-        ++ label_text (text_at labels.now node.label)) result }
+    ensures { Wrote (W.seen out.old) (W.seen out.new)
+        (gap_text above node.depth ++ label_text (text_at labels.now node.label)) result }
 {
     match print_gap(out, above, node.depth) {
         Ok(()) => print_label(out, labels.text(node.label)),
@@ -185,8 +176,7 @@ fn print_node<W: Sink>(out: &mut W, labels: &Labels, above: u32, node: Node) -> 
 // Writes the nodes after the root, whose label was printed.
 fn print_nodes<W: Sink>(out: &mut W, labels: &Labels, nodes: &[Node]) -> Result<(), Failed>
     requires labels { All (λ n. n.label < length labels.now) nodes.now }
-    ensures { Wrote (W.written out.old) (W.written out.new) (W.free out.old) (W.free out.new)
-        (W.faults out.old) (W.faults out.new) (text_from labels.now 0 nodes.now) result }
+    ensures { Wrote (W.seen out.old) (W.seen out.new) (text_from labels.now 0 nodes.now) result }
 {
     let mut above = 0;
     let mut i = 0;
@@ -208,8 +198,7 @@ fn print_nodes<W: Sink>(out: &mut W, labels: &Labels, nodes: &[Node]) -> Result<
 /// front of the text was written. Takes no memory. Worst case: O(b) steps for b bytes of text.
 pub fn print_tree<W: Sink>(tree: &Tree, labels: &Labels, out: &mut W) -> Result<(), Failed>
     requires { HasLabels labels.now tree.now }
-    ensures { Wrote (W.written out.old) (W.written out.new) (W.free out.old) (W.free out.new)
-        (W.faults out.old) (W.faults out.new) (tree_text labels.now tree.now) result }
+    ensures { Wrote (W.seen out.old) (W.seen out.new) (tree_text labels.now tree.now) result }
 {
     let nodes = tree.nodes();
     match print_label(out, labels.text(nodes[0].label)) {

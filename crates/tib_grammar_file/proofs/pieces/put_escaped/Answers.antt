@@ -6,20 +6,20 @@ use Rattle.tib_lex.specs.Grammar.{escape}
 use Rattle.tib_grammar_file.proofs.pieces.put_escaped.Goals as goal
 
 pub loop-byte-init : goal.loop-byte-init
-loop-byte-init g c = prints_nothing (Unit {0}) Failed (g.W.Sink.written c.args.out.now) (g.W.Sink.free c.args.out.now) (g.W.Sink.faults c.args.out.now) tt
+loop-byte-init g c = prints_nothing (Unit {0}) Failed (g.W.Sink.seen c.args.out.now) tt
 
 pub returns-in-Err : goal.returns-in-Err
 returns-in-Err g c =
     let text = c.args.text.now in
     let k = c.loop-byte.byte-index in
-    cut (Unit {0}) (Unit {0}) Failed g.W.Sink.written g.W.Sink.free g.W.Sink.faults c.args.out.now c.put_byte.new.out (escape (take (k + 1) text)) (escape (drop (k + 1) text)) (escape text) _ (escape_parts text (k + 1))
-    (seq (Unit {0}) (Unit {0}) Failed g.W.Sink.written g.W.Sink.free g.W.Sink.faults c.args.out.now c.loop-byte.out c.put_byte.new.out (escape (take k text)) _ (escape (take (k + 1) text)) tt _ (escape_step text k _ c.loop-byte-test.true refl) c.loop-byte.invariant c.in-Err.ensures)
+    cut (Unit {0}) (Unit {0}) Failed g.W.Sink.seen c.args.out.now c.put_byte.new.out (escape (take (k + 1) text)) (escape (drop (k + 1) text)) (escape text) _ (escape_parts text (k + 1))
+    (seq (Unit {0}) (Unit {0}) Failed g.W.Sink.seen c.args.out.now c.loop-byte.out c.put_byte.new.out (escape (take k text)) _ (escape (take (k + 1) text)) tt _ (escape_step text k _ c.loop-byte-test.true refl) c.loop-byte.invariant c.in-Err.ensures)
 
 pub loop-byte-preserved : goal.loop-byte-preserved
 loop-byte-preserved g c =
     let text = c.args.text.now in
     let k = c.loop-byte.byte-index in
-    seq (Unit {0}) (Unit {0}) Failed g.W.Sink.written g.W.Sink.free g.W.Sink.faults c.args.out.now c.loop-byte.out c.put_byte.new.out (escape (take k text)) _ (escape (take (k + 1) text)) tt _ (escape_step text k _ c.loop-byte-test.true refl) c.loop-byte.invariant c.in-Ok.ensures
+    seq (Unit {0}) (Unit {0}) Failed g.W.Sink.seen c.args.out.now c.loop-byte.out c.put_byte.new.out (escape (take k text)) _ (escape (take (k + 1) text)) tt _ (escape_step text k _ c.loop-byte-test.true refl) c.loop-byte.invariant c.in-Ok.ensures
 
 pub returns : goal.returns
-returns g c = prints_done c.args.text.now c.loop-byte.byte-index (Unit {0}) Failed (g.W.Sink.written c.args.out.now) (g.W.Sink.written c.loop-byte.out) (g.W.Sink.free c.args.out.now) (g.W.Sink.free c.loop-byte.out) (g.W.Sink.faults c.args.out.now) (g.W.Sink.faults c.loop-byte.out) _ c.loop-byte-test.false c.loop-byte.invariant
+returns g c = prints_done c.args.text.now c.loop-byte.byte-index (Unit {0}) Failed (g.W.Sink.seen c.args.out.now) (g.W.Sink.seen c.loop-byte.out) _ c.loop-byte-test.false c.loop-byte.invariant

@@ -5,7 +5,7 @@ use Rattle.tib_lex.specs.Grammar.{escape}
 use Rattle.tib_grammar_file.proofs.pieces.put_quoted.Goals as goal
 
 pub returns-in-Ok : goal.returns-in-Ok
-returns-in-Ok g c = seq (Unit {0}) (Unit {0}) Failed g.W.Sink.written g.W.Sink.free g.W.Sink.faults c.args.out.now c.put.new.out c.close_quote.new.out (34 ∷ []) (escape c.args.text.now ++ 34 ∷ []) (34 ∷ (escape c.args.text.now ++ 34 ∷ [])) tt _ refl c.in-Ok.ensures c.close_quote.ensures
+returns-in-Ok g c = seq (Unit {0}) (Unit {0}) Failed g.W.Sink.seen c.args.out.now c.put.new.out c.close_quote.new.out (34 ∷ []) (escape c.args.text.now ++ 34 ∷ []) (34 ∷ (escape c.args.text.now ++ 34 ∷ [])) tt _ refl c.in-Ok.ensures c.close_quote.ensures
 
 pub returns-in-Err : goal.returns-in-Err
-returns-in-Err g c = cut (Unit {0}) (Unit {0}) Failed g.W.Sink.written g.W.Sink.free g.W.Sink.faults c.args.out.now c.put.new.out (34 ∷ []) (escape c.args.text.now ++ 34 ∷ []) (34 ∷ (escape c.args.text.now ++ 34 ∷ [])) _ refl c.in-Err.ensures
+returns-in-Err g c = cut (Unit {0}) (Unit {0}) Failed g.W.Sink.seen c.args.out.now c.put.new.out (34 ∷ []) (escape c.args.text.now ++ 34 ∷ []) (34 ∷ (escape c.args.text.now ++ 34 ∷ [])) _ refl c.in-Err.ensures

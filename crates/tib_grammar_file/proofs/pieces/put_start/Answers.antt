@@ -4,4 +4,4 @@ use Rattle.tib_grammar_file.proofs.Printing.{seq, text_at}
 use Rattle.tib_grammar_file.proofs.pieces.put_start.Goals as goal
 
 pub returns-in-Ok : goal.returns-in-Ok
-returns-in-Ok g c = seq (Unit {0}) (Unit {0}) Failed g.W.Sink.written g.W.Sink.free g.W.Sink.faults c.args.out.now c.put.new.out c.put-in-Ok.new.out c.text.result.now (10 ∷ []) (get_or c.args.names.now 0 [] ++ 10 ∷ []) tt _ (ap (λ (t : List ℕ). t ++ 10 ∷ []) (text_at c.args.names.now 0 c.text.result.now c.text.ensures)) c.in-Ok.ensures c.put-in-Ok.ensures
+returns-in-Ok g c = seq (Unit {0}) (Unit {0}) Failed g.W.Sink.seen c.args.out.now c.put.new.out c.put-in-Ok.new.out c.text.result.now (10 ∷ []) (get_or c.args.names.now 0 [] ++ 10 ∷ []) tt _ (ap (λ (t : List ℕ). t ++ 10 ∷ []) (text_at c.args.names.now 0 c.text.result.now c.text.ensures)) c.in-Ok.ensures c.put-in-Ok.ensures

@@ -14,5 +14,5 @@ abbrev pub invariant-loop-k : goal.invariant-loop-k
 invariant-loop-k g l = record {
   within : l.next ≤ length l.items;
   from : l.at ≤ l.next;
-  half : (ts : Trees (Symbol ℕ g.row.N-Leaf.Denot)) (ys : List (Symbol ℕ g.row.N-Leaf.Denot × ℕ)) → pairs_of (drop l.at l.items) ≡ preorder ts ++ ys → count_of ts ≡ l.count → Half g.W.Sink.written g.W.Sink.free g.W.Sink.faults l.fn.out l.out (symbol_text (g.N.Notation.label_text l.names) (g.N.Notation.leaf_text l.names l.labels) l.labels) l.items ts ys l.at l.k l.count l.next;
+  half : (ts : Trees (Symbol ℕ g.row.N-Leaf.Denot)) (ys : List (Symbol ℕ g.row.N-Leaf.Denot × ℕ)) → pairs_of (drop l.at l.items) ≡ preorder ts ++ ys → count_of ts ≡ l.count → Half g.W.Sink.seen l.fn.out l.out (symbol_text (g.N.Notation.label_text l.names) (g.N.Notation.leaf_text l.names l.labels) l.labels) l.items ts ys l.at l.k l.count l.next;
 }

@@ -15,10 +15,10 @@ put_trees-requires-clause-trees g c = (only c.args.side.now, [], side_trees c.it
 pub returns-in-Ok : goal.returns-in-Ok
 returns-in-Ok g c =
     let text = side_text (symbol_text (g.N.Notation.label_text c.args.names.now) (g.N.Notation.leaf_text c.args.names.now c.args.labels.now) c.args.labels.now) c.args.side.now in
-    prints_as ℕ (Unit {0}) Failed (g.W.Sink.written c.args.out.now) (g.W.Sink.written c.put_trees.new.out) (g.W.Sink.free c.args.out.now) (g.W.Sink.free c.put_trees.new.out) (g.W.Sink.faults c.args.out.now) (g.W.Sink.faults c.put_trees.new.out) text text c.in-Ok.field-0 tt refl
+    prints_as ℕ (Unit {0}) Failed (g.W.Sink.seen c.args.out.now) (g.W.Sink.seen c.put_trees.new.out) text text c.in-Ok.field-0 tt refl
     (c.in-Ok.ensures.prints (only c.args.side.now) [] (side_trees c.items.result.now c.args.side.now c.items.ensures.items) refl)
 
 pub returns-in-Err : goal.returns-in-Err
 returns-in-Err g c =
-    fails_as ℕ (Unit {0}) Failed g.W.Sink.written g.W.Sink.free g.W.Sink.faults c.args.out.now c.put_trees.new.out (side_text (symbol_text (g.N.Notation.label_text c.args.names.now) (g.N.Notation.leaf_text c.args.names.now c.args.labels.now) c.args.labels.now) c.args.side.now) _
+    fails_as ℕ (Unit {0}) Failed g.W.Sink.seen c.args.out.now c.put_trees.new.out (side_text (symbol_text (g.N.Notation.label_text c.args.names.now) (g.N.Notation.leaf_text c.args.names.now c.args.labels.now) c.args.labels.now) c.args.side.now) _
     (c.in-Err.ensures.prints (only c.args.side.now) [] (side_trees c.items.result.now c.args.side.now c.items.ensures.items) refl)

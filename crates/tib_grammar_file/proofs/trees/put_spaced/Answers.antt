@@ -6,7 +6,7 @@ use Rattle.tib_grammar_file.specs.TreeText.{symbol_text, space}
 use Rattle.tib_grammar_file.proofs.trees.put_spaced.Goals as goal
 
 pub returns-in-Ok : goal.returns-in-Ok
-returns-in-Ok g c = seq (Unit {0}) (Unit {0}) Failed g.W.Sink.written g.W.Sink.free g.W.Sink.faults c.args.out.now c.put_space.new.out c.put_symbol.new.out (space c.args.k) (symbol_text (g.N.Notation.label_text c.args.names.now) (g.N.Notation.leaf_text c.args.names.now c.args.labels.now) c.args.labels.now (pair_of c.args.item.now).0) (space c.args.k ++ symbol_text (g.N.Notation.label_text c.args.names.now) (g.N.Notation.leaf_text c.args.names.now c.args.labels.now) c.args.labels.now (pair_of c.args.item.now).0) tt _ refl c.in-Ok.ensures c.put_symbol.ensures
+returns-in-Ok g c = seq (Unit {0}) (Unit {0}) Failed g.W.Sink.seen c.args.out.now c.put_space.new.out c.put_symbol.new.out (space c.args.k) (symbol_text (g.N.Notation.label_text c.args.names.now) (g.N.Notation.leaf_text c.args.names.now c.args.labels.now) c.args.labels.now (pair_of c.args.item.now).0) (space c.args.k ++ symbol_text (g.N.Notation.label_text c.args.names.now) (g.N.Notation.leaf_text c.args.names.now c.args.labels.now) c.args.labels.now (pair_of c.args.item.now).0) tt _ refl c.in-Ok.ensures c.put_symbol.ensures
 
 pub returns-in-Err : goal.returns-in-Err
-returns-in-Err g c = cut (Unit {0}) (Unit {0}) Failed g.W.Sink.written g.W.Sink.free g.W.Sink.faults c.args.out.now c.put_space.new.out (space c.args.k) (symbol_text (g.N.Notation.label_text c.args.names.now) (g.N.Notation.leaf_text c.args.names.now c.args.labels.now) c.args.labels.now (pair_of c.args.item.now).0) (space c.args.k ++ symbol_text (g.N.Notation.label_text c.args.names.now) (g.N.Notation.leaf_text c.args.names.now c.args.labels.now) c.args.labels.now (pair_of c.args.item.now).0) _ refl c.in-Err.ensures
+returns-in-Err g c = cut (Unit {0}) (Unit {0}) Failed g.W.Sink.seen c.args.out.now c.put_space.new.out (space c.args.k) (symbol_text (g.N.Notation.label_text c.args.names.now) (g.N.Notation.leaf_text c.args.names.now c.args.labels.now) c.args.labels.now (pair_of c.args.item.now).0) (space c.args.k ++ symbol_text (g.N.Notation.label_text c.args.names.now) (g.N.Notation.leaf_text c.args.names.now c.args.labels.now) c.args.labels.now (pair_of c.args.item.now).0) _ refl c.in-Err.ensures

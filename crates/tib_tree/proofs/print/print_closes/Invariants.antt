@@ -6,7 +6,7 @@ use Rattle.tib_tree.proofs.print.print_closes.Given as goal
 abbrev pub invariant-loop-done : goal.invariant-loop-done
 invariant-loop-done g l = record {
   within : l.done ≤ l.count;
-  wrote : HasWritten (g.W.Sink.written l.fn.out) (g.W.Sink.written l.out) (g.W.Sink.free l.fn.out) (g.W.Sink.free l.out) (g.W.Sink.faults l.fn.out) (g.W.Sink.faults l.out) (replicate l.done 41);
+  wrote : HasWritten (g.W.Sink.seen l.fn.out) (g.W.Sink.seen l.out) (replicate l.done 41);
 }
 
 abbrev pub decreases-loop-done : goal.decreases-loop-done

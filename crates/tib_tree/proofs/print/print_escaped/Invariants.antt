@@ -6,7 +6,7 @@ use Rattle.tib_tree.proofs.print.print_escaped.Given as goal
 abbrev pub invariant-loop-at : goal.invariant-loop-at
 invariant-loop-at g l = record {
   within : l.at ≤ length l.text;
-  wrote : HasWritten (g.W.Sink.written l.fn.out) (g.W.Sink.written l.out) (g.W.Sink.free l.fn.out) (g.W.Sink.free l.out) (g.W.Sink.faults l.fn.out) (g.W.Sink.faults l.out) (escape (take l.at l.text));
+  wrote : HasWritten (g.W.Sink.seen l.fn.out) (g.W.Sink.seen l.out) (escape (take l.at l.text));
 }
 
 abbrev pub decreases-loop-at : goal.decreases-loop-at
