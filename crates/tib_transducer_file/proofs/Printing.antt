@@ -8,8 +8,9 @@ use Rattle.tib_tree.specs.Trees.{Tree, Trees, none, tree, only, preorder, preord
 use Rattle.tib_lex.proofs.Places.{any_default}
 use Rattle.tib_grammar.specs.Sides.{Symbol, label, hole, holes, HolesAreLeaves}
 use Rattle.tib_grammar.specs.Range.{AllBelow}
-use Rattle.tib_grammar_file.specs.Prints.{Prints}
-use Rattle.tib_grammar_file.proofs.Printing.{prints_same}
+use Rattle.tib_io.specs.Writes.{SinkSeen}
+use Rattle.tib_io.specs.Wrote.{Wrote}
+use Rattle.tib_io.specs.Writing.{wrote_same}
 use Rattle.tib_transducer.specs.Range.{AreWithin, EndsInHoles, EndInHoles, IsWithin as IsWithinRange}
 use Rattle.tib_transducer.specs.Rules.{transducer_rule, no_rule}
 use Rattle.tib_transducer.specs.TransducerOf.{TransducerOf}
@@ -83,9 +84,9 @@ pub transducer_within : (names labels others : List (List ℕ)) (rules all : Lis
 transducer_within names labels others rules all same are r l b =
     subst (λ (ns : List (List ℕ)). All (IsRuleWithin ns labels) rules) (sym same) (subst (λ (rs : List (TransducerRule ℕ)). All (IsRuleWithin others labels) rs) (sym are) (rules_within others labels all r l b))
 
-pub transducer_same : {T E : Type 0} {w y : Option (List ℕ)} {f h : Option ℕ} {a c : ℕ} {r : Result T E} (v u : Scale) (labels names : List (List ℕ)) (rules : List (TransducerRule ℕ)) (t : TransducerOf) → v ≡ u → names ≡ t.names → rules ≡ t.rules → Prints w y f h a c ((get_or names 0 [] ++ 10 ∷ []) ++ rules_text v names labels rules) r → Prints w y f h a c (transducer_text u labels t) r
-transducer_same {T} {E} {w} {y} {f} {h} {a} {c} {r} v u labels names rules t e same are p =
-    prints_same T E w y f h a c ((get_or names 0 [] ++ 10 ∷ []) ++ rules_text v names labels rules) (transducer_text u labels t) r
+pub transducer_same : {T E : Type 0} {a c : SinkSeen} {r : Result T E} (v u : Scale) (labels names : List (List ℕ)) (rules : List (TransducerRule ℕ)) (t : TransducerOf) → v ≡ u → names ≡ t.names → rules ≡ t.rules → Wrote a c ((get_or names 0 [] ++ 10 ∷ []) ++ rules_text v names labels rules) r → Wrote a c (transducer_text u labels t) r
+transducer_same {T} {E} {a} {c} {r} v u labels names rules t e same are p =
+    wrote_same a c ((get_or names 0 [] ++ 10 ∷ []) ++ rules_text v names labels rules) (transducer_text u labels t) r
     (ap (λ (b : Scale). (get_or names 0 [] ++ 10 ∷ []) ++ rules_text b names labels rules) e
     ∙ ap (λ (ns : List (List ℕ)). (get_or ns 0 [] ++ 10 ∷ []) ++ rules_text u ns labels rules) same
     ∙ ap (λ (rs : List (TransducerRule ℕ)). (get_or t.names 0 [] ++ 10 ∷ []) ++ rules_text u t.names labels rs) are) p

@@ -1,6 +1,6 @@
 // Writes labels as they are written in transducers, and decides which of them need no quotes.
 ghost use Rattle.std.specs.Prelude.{◌≡◌, ◌≤◌, ◌<◌, length};
-ghost use Rattle.tib_grammar_file.specs.Prints.{Prints};
+ghost use Rattle.tib_io.specs.Wrote.{Wrote};
 ghost use Rattle.tib_grammar_file.specs.Rule.{has_dot as spec_has_dot};
 ghost use Rattle.tib_grammar_file.specs.Weight.{is_digit as spec_is_digit};
 ghost use Rattle.tib_transducer_file.specs.Forms.{digits, number_size as spec_number_size};
@@ -80,8 +80,7 @@ fn is_plain(text: &[u8]) -> bool
 
 // A label of this text.
 pub(crate) fn put_label<W: Sink>(out: &mut W, text: &[u8]) -> Result<(), Failed>
-    ensures { Prints (W.written out.old) (W.written out.new) (W.free out.old) (W.free out.new)
-        (W.faults out.old) (W.faults out.new) (label_text text.now) result }
+    ensures { Wrote (W.seen out.old) (W.seen out.new) (label_text text.now) result }
 {
     if is_plain(text) {
         put(out, text)

@@ -1,6 +1,6 @@
 // How the sides of rules are written: variables on the left, pairs on the right.
 ghost use Rattle.std.specs.Prelude.{◌<◌, ◌++◌, ℕ, [], ◌∷◌, length, decimal};
-ghost use Rattle.tib_grammar_file.specs.Prints.{Prints};
+ghost use Rattle.tib_io.specs.Wrote.{Wrote};
 ghost use Rattle.tib_transducer_file.specs.Printed.{asked_text};
 ghost use Rattle.tib_transducer_file.specs.Labelled.{IsAskedBelow};
 
@@ -14,8 +14,7 @@ use tib_tree::{Label, Labels};
 // The label that a variable asks for, if it asks for one.
 fn put_asked<W: Sink>(out: &mut W, asked: Option<Label>, labels: &Labels) -> Result<(), Failed>
     requires { IsAskedBelow (length labels.now) asked }
-    ensures { Prints (W.written out.old) (W.written out.new) (W.free out.old) (W.free out.new)
-        (W.faults out.old) (W.faults out.new) (asked_text labels.now asked) result }
+    ensures { Wrote (W.seen out.old) (W.seen out.new) (asked_text labels.now asked) result }
 {
     match asked {
         Some(label) => put_label(out, labels.text(label)),
@@ -26,8 +25,8 @@ fn put_asked<W: Sink>(out: &mut W, asked: Option<Label>, labels: &Labels) -> Res
 // What follows a variable's number.
 fn put_colon<W: Sink>(out: &mut W, asked: Option<Label>, labels: &Labels) -> Result<(), Failed>
     requires { IsAskedBelow (length labels.now) asked }
-    ensures { Prints (W.written out.old) (W.written out.new) (W.free out.old) (W.free out.new)
-        (W.faults out.old) (W.faults out.new) (58 ∷ [] ++ asked_text labels.now asked) result }
+    ensures { Wrote (W.seen out.old) (W.seen out.new)
+        (58 ∷ [] ++ asked_text labels.now asked) result }
 {
     match put(out, b":") {
         Ok(()) => put_asked(out, asked, labels),
@@ -38,9 +37,9 @@ fn put_colon<W: Sink>(out: &mut W, asked: Option<Label>, labels: &Labels) -> Res
 // What follows a variable's x.
 fn put_numbered<W: Sink>(out: &mut W, variable: &Variable, labels: &Labels) -> Result<(), Failed>
     requires { IsAskedBelow (length labels.now) variable.now.label }
-    ensures { Prints (W.written out.old) (W.written out.new) (W.free out.old) (W.free out.new)
-        (W.faults out.old) (W.faults out.new) (decimal variable.now.number
-        ++ (58 ∷ [] ++ asked_text labels.now variable.now.label)) result }
+    ensures { Wrote (W.seen out.old) (W.seen out.new)
+        (decimal variable.now.number ++ (58 ∷ []
+        ++ asked_text labels.now variable.now.label)) result }
 {
     match put_number(out, variable.number as u64) {
         Ok(()) => put_colon(out, variable.label, labels),
@@ -82,8 +81,7 @@ impl Notation for LeftSides {
 
 // What follows a pair's state.
 fn put_variable<W: Sink>(out: &mut W, variable: u32) -> Result<(), Failed>
-    ensures { Prints (W.written out.old) (W.written out.new) (W.free out.old) (W.free out.new)
-        (W.faults out.old) (W.faults out.new) (46 ∷ (120 ∷ []) ++ decimal variable) result }
+    ensures { Wrote (W.seen out.old) (W.seen out.new) (46 ∷ (120 ∷ []) ++ decimal variable) result }
 {
     match put(out, b".x") {
         Ok(()) => put_number(out, variable as u64),

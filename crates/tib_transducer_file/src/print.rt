@@ -1,8 +1,6 @@
 // Prints transducers.
-ghost use Rattle.std.specs.Prelude.{◌≤◌, ◌<◌, ◌++◌, ℕ, [], ◌∷◌, length, OnOk, OnErr};
-ghost use Rattle.tib_io.specs.Causes.{Rose};
-ghost use Rattle.tib_io.specs.Writes.{Takes, TakesFront, Calm, Succeeds};
-ghost use Rattle.tib_grammar_file.specs.Prints.{Prints};
+ghost use Rattle.std.specs.Prelude.{◌<◌, ◌++◌, ℕ, [], ◌∷◌, length};
+ghost use Rattle.tib_io.specs.Wrote.{Wrote};
 ghost use Rattle.tib_transducer_file.specs.Printed.{right_text, left_text, rule_text, transducer_text};
 ghost use Rattle.tib_transducer_file.specs.Labelled.{AreLabelled};
 ghost use Rattle.tib_transducer_file.specs.Within.{IsSideWithin, IsRuleWithin, IsPairWithin};
@@ -23,9 +21,8 @@ fn put_right<W: Sink>(
     labels: &Labels,
 ) -> Result<(), Failed>
     requires { IsSideWithin (IsPairWithin names.now labels.now) (length labels.now) rule.now.right }
-    ensures { Prints (W.written out.old) (W.written out.new) (W.free out.old) (W.free out.new)
-        (W.faults out.old) (W.faults out.new) (right_text scale names.now labels.now rule.now)
-        result }
+    ensures { Wrote (W.seen out.old) (W.seen out.new)
+        (right_text scale names.now labels.now rule.now) result }
 {
     match put_side::<RightSides, W>(out, &rule.right, names, labels) {
         Ok(()) => put_end(out, scale, rule.cost),
@@ -41,9 +38,8 @@ fn put_arrow<W: Sink>(
     labels: &Labels,
 ) -> Result<(), Failed>
     requires { IsSideWithin (IsPairWithin names.now labels.now) (length labels.now) rule.now.right }
-    ensures { Prints (W.written out.old) (W.written out.new) (W.free out.old) (W.free out.new)
-        (W.faults out.old) (W.faults out.new) (32 ∷ (45 ∷ (62 ∷ (32 ∷ [])))
-        ++ right_text scale names.now labels.now rule.now) result }
+    ensures { Wrote (W.seen out.old) (W.seen out.new)
+        (32 ∷ (45 ∷ (62 ∷ (32 ∷ []))) ++ right_text scale names.now labels.now rule.now) result }
 {
     match put(out, b" -> ") {
         Ok(()) => put_right(out, scale, rule, names, labels),
@@ -59,9 +55,8 @@ fn put_left<W: Sink>(
     labels: &Labels,
 ) -> Result<(), Failed>
     requires { IsRuleWithin names.now labels.now rule.now }
-    ensures { Prints (W.written out.old) (W.written out.new) (W.free out.old) (W.free out.new)
-        (W.faults out.old) (W.faults out.new) (left_text scale names.now labels.now rule.now)
-        result }
+    ensures { Wrote (W.seen out.old) (W.seen out.new)
+        (left_text scale names.now labels.now rule.now) result }
 {
     match put_side::<LeftSides, W>(out, &rule.left, names, labels) {
         Ok(()) => put_arrow(out, scale, rule, names, labels),
@@ -77,8 +72,7 @@ fn put_stop<W: Sink>(
     labels: &Labels,
 ) -> Result<(), Failed>
     requires { IsRuleWithin names.now labels.now rule.now }
-    ensures { Prints (W.written out.old) (W.written out.new) (W.free out.old) (W.free out.new)
-        (W.faults out.old) (W.faults out.new)
+    ensures { Wrote (W.seen out.old) (W.seen out.new)
         (46 ∷ [] ++ left_text scale names.now labels.now rule.now) result }
 {
     match put(out, b".") {
@@ -96,9 +90,8 @@ fn put_rule<W: Sink>(
     labels: &Labels,
 ) -> Result<(), Failed>
     requires { IsRuleWithin names.now labels.now rule.now }
-    ensures { Prints (W.written out.old) (W.written out.new) (W.free out.old) (W.free out.new)
-        (W.faults out.old) (W.faults out.new) (rule_text scale names.now labels.now rule.now)
-        result }
+    ensures { Wrote (W.seen out.old) (W.seen out.new)
+        (rule_text scale names.now labels.now rule.now) result }
 {
     match put(out, names.text(rule.state)) {
         Ok(()) => put_stop(out, scale, rule, names, labels),
@@ -142,17 +135,8 @@ pub fn print_transducer<S: Semiring, W: Sink>(
     out: &mut W,
 ) -> Result<(), Failed>
     requires { AreLabelled (length labels.now) transducer.now.rules }
-    ensures ok { OnOk result (Takes (W.written out.old) (W.written out.new) (W.free out.old)
-        (W.free out.new) (transducer_text S.SCALE labels.now transducer.now)) }
-    ensures err { OnErr result (TakesFront (W.written out.old) (W.written out.new) (W.free out.old)
-        (W.free out.new) (transducer_text S.SCALE labels.now transducer.now)) }
-    ensures cause { OnErr result (Rose (W.faults out.old) (W.faults out.new)) }
-    ensures later { W.faults out.old ≤ W.faults out.new }
-    ensures calm { Calm (W.free out.old)
-        (length (transducer_text S.SCALE labels.now transducer.now)) (W.faults out.old)
-        (W.faults out.new) }
-    ensures succeeds { Succeeds (W.free out.old)
-        (length (transducer_text S.SCALE labels.now transducer.now)) (W.faults out.old) result }
+    ensures { Wrote (W.seen out.old) (W.seen out.new)
+        (transducer_text S.SCALE labels.now transducer.now) result }
 {
     transducer.is_sound();
     put_file::<TransducerRules, W>(

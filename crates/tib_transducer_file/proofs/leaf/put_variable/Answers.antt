@@ -5,7 +5,7 @@ use Rattle.tib_grammar_file.proofs.Printing.{seq, cut}
 use Rattle.tib_transducer_file.proofs.leaf.put_variable.Goals as goal
 
 pub returns-in-Ok : goal.returns-in-Ok
-returns-in-Ok g c = seq (Unit {0}) (Unit {0}) Failed g.W.Sink.written g.W.Sink.free g.W.Sink.faults c.args.out.now c.put.new.out c.put_number.new.out ((46 ∷ (120 ∷ []))) (decimal c.args.variable) ((46 ∷ (120 ∷ [])) ++ (decimal c.args.variable)) tt _ refl c.in-Ok.ensures c.put_number.ensures
+returns-in-Ok g c = seq (Unit {0}) (Unit {0}) Failed g.W.Sink.seen c.args.out.now c.put.new.out c.put_number.new.out ((46 ∷ (120 ∷ []))) (decimal c.args.variable) ((46 ∷ (120 ∷ [])) ++ (decimal c.args.variable)) tt _ refl c.in-Ok.ensures c.put_number.ensures
 
 pub returns-in-Err : goal.returns-in-Err
-returns-in-Err g c = cut (Unit {0}) (Unit {0}) Failed g.W.Sink.written g.W.Sink.free g.W.Sink.faults c.args.out.now c.put.new.out ((46 ∷ (120 ∷ []))) (decimal c.args.variable) ((46 ∷ (120 ∷ [])) ++ (decimal c.args.variable)) _ refl c.in-Err.ensures
+returns-in-Err g c = cut (Unit {0}) (Unit {0}) Failed g.W.Sink.seen c.args.out.now c.put.new.out ((46 ∷ (120 ∷ []))) (decimal c.args.variable) ((46 ∷ (120 ∷ [])) ++ (decimal c.args.variable)) _ refl c.in-Err.ensures

@@ -10,5 +10,4 @@ put_file-requires g c = record {
 
 pub returns : goal.returns
 returns g c =
-    let p = transducer_same c.SCALE.result g.S.Semiring.SCALE c.args.labels.now c.names.result.now c.rule_list.result.now c.args.transducer.now c.SCALE.ensures c.names.ensures c.rule_list.ensures c.put_file.ensures in
-    record { ok = p.ok; err = p.err; cause = p.cause; later = p.later; calm = p.calm; succeeds = p.succeeds }
+    transducer_same c.SCALE.result g.S.Semiring.SCALE c.args.labels.now c.names.result.now c.rule_list.result.now c.args.transducer.now c.SCALE.ensures c.names.ensures c.rule_list.ensures c.put_file.ensures

@@ -5,7 +5,7 @@ use Rattle.tib_transducer_file.specs.Printed.{side_text, variable_text, right_te
 use Rattle.tib_transducer_file.proofs.print.put_left.Goals as goal
 
 pub returns-in-Ok : goal.returns-in-Ok
-returns-in-Ok g c = seq (Unit {0}) (Unit {0}) Failed g.W.Sink.written g.W.Sink.free g.W.Sink.faults c.args.out.now c.put_side.new.out c.put_arrow.new.out ((side_text (variable_text c.args.names.now c.args.labels.now) c.args.labels.now c.args.rule.now.left)) (32 ∷ (45 ∷ (62 ∷ (32 ∷ []))) ++ right_text c.args.scale c.args.names.now c.args.labels.now c.args.rule.now) ((side_text (variable_text c.args.names.now c.args.labels.now) c.args.labels.now c.args.rule.now.left) ++ (32 ∷ (45 ∷ (62 ∷ (32 ∷ []))) ++ right_text c.args.scale c.args.names.now c.args.labels.now c.args.rule.now)) tt _ refl c.in-Ok.ensures c.put_arrow.ensures
+returns-in-Ok g c = seq (Unit {0}) (Unit {0}) Failed g.W.Sink.seen c.args.out.now c.put_side.new.out c.put_arrow.new.out ((side_text (variable_text c.args.names.now c.args.labels.now) c.args.labels.now c.args.rule.now.left)) (32 ∷ (45 ∷ (62 ∷ (32 ∷ []))) ++ right_text c.args.scale c.args.names.now c.args.labels.now c.args.rule.now) ((side_text (variable_text c.args.names.now c.args.labels.now) c.args.labels.now c.args.rule.now.left) ++ (32 ∷ (45 ∷ (62 ∷ (32 ∷ []))) ++ right_text c.args.scale c.args.names.now c.args.labels.now c.args.rule.now)) tt _ refl c.in-Ok.ensures c.put_arrow.ensures
 
 pub returns-in-Err : goal.returns-in-Err
-returns-in-Err g c = cut (Unit {0}) (Unit {0}) Failed g.W.Sink.written g.W.Sink.free g.W.Sink.faults c.args.out.now c.put_side.new.out ((side_text (variable_text c.args.names.now c.args.labels.now) c.args.labels.now c.args.rule.now.left)) (32 ∷ (45 ∷ (62 ∷ (32 ∷ []))) ++ right_text c.args.scale c.args.names.now c.args.labels.now c.args.rule.now) ((side_text (variable_text c.args.names.now c.args.labels.now) c.args.labels.now c.args.rule.now.left) ++ (32 ∷ (45 ∷ (62 ∷ (32 ∷ []))) ++ right_text c.args.scale c.args.names.now c.args.labels.now c.args.rule.now)) _ refl c.in-Err.ensures
+returns-in-Err g c = cut (Unit {0}) (Unit {0}) Failed g.W.Sink.seen c.args.out.now c.put_side.new.out ((side_text (variable_text c.args.names.now c.args.labels.now) c.args.labels.now c.args.rule.now.left)) (32 ∷ (45 ∷ (62 ∷ (32 ∷ []))) ++ right_text c.args.scale c.args.names.now c.args.labels.now c.args.rule.now) ((side_text (variable_text c.args.names.now c.args.labels.now) c.args.labels.now c.args.rule.now.left) ++ (32 ∷ (45 ∷ (62 ∷ (32 ∷ []))) ++ right_text c.args.scale c.args.names.now c.args.labels.now c.args.rule.now)) _ refl c.in-Err.ensures

@@ -5,7 +5,7 @@ use Rattle.tib_transducer_file.specs.Printed.{side_text, pair_text, end_text}
 use Rattle.tib_transducer_file.proofs.print.put_right.Goals as goal
 
 pub returns-in-Ok : goal.returns-in-Ok
-returns-in-Ok g c = seq (Unit {0}) (Unit {0}) Failed g.W.Sink.written g.W.Sink.free g.W.Sink.faults c.args.out.now c.put_side.new.out c.put_end.new.out ((side_text (pair_text c.args.names.now c.args.labels.now) c.args.labels.now c.args.rule.now.right)) (end_text c.args.scale c.args.rule.now.cost) ((side_text (pair_text c.args.names.now c.args.labels.now) c.args.labels.now c.args.rule.now.right) ++ (end_text c.args.scale c.args.rule.now.cost)) tt _ refl c.in-Ok.ensures c.put_end.ensures
+returns-in-Ok g c = seq (Unit {0}) (Unit {0}) Failed g.W.Sink.seen c.args.out.now c.put_side.new.out c.put_end.new.out ((side_text (pair_text c.args.names.now c.args.labels.now) c.args.labels.now c.args.rule.now.right)) (end_text c.args.scale c.args.rule.now.cost) ((side_text (pair_text c.args.names.now c.args.labels.now) c.args.labels.now c.args.rule.now.right) ++ (end_text c.args.scale c.args.rule.now.cost)) tt _ refl c.in-Ok.ensures c.put_end.ensures
 
 pub returns-in-Err : goal.returns-in-Err
-returns-in-Err g c = cut (Unit {0}) (Unit {0}) Failed g.W.Sink.written g.W.Sink.free g.W.Sink.faults c.args.out.now c.put_side.new.out ((side_text (pair_text c.args.names.now c.args.labels.now) c.args.labels.now c.args.rule.now.right)) (end_text c.args.scale c.args.rule.now.cost) ((side_text (pair_text c.args.names.now c.args.labels.now) c.args.labels.now c.args.rule.now.right) ++ (end_text c.args.scale c.args.rule.now.cost)) _ refl c.in-Err.ensures
+returns-in-Err g c = cut (Unit {0}) (Unit {0}) Failed g.W.Sink.seen c.args.out.now c.put_side.new.out ((side_text (pair_text c.args.names.now c.args.labels.now) c.args.labels.now c.args.rule.now.right)) (end_text c.args.scale c.args.rule.now.cost) ((side_text (pair_text c.args.names.now c.args.labels.now) c.args.labels.now c.args.rule.now.right) ++ (end_text c.args.scale c.args.rule.now.cost)) _ refl c.in-Err.ensures

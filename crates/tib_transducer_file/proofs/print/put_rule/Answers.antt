@@ -5,7 +5,7 @@ use Rattle.tib_transducer_file.specs.Printed.{left_text}
 use Rattle.tib_transducer_file.proofs.print.put_rule.Goals as goal
 
 pub returns-in-Ok : goal.returns-in-Ok
-returns-in-Ok g c = seq (Unit {0}) (Unit {0}) Failed g.W.Sink.written g.W.Sink.free g.W.Sink.faults c.args.out.now c.put.new.out c.put_stop.new.out c.text.result.now (46 ∷ [] ++ left_text c.args.scale c.args.names.now c.args.labels.now c.args.rule.now) ((get_or c.args.names.now c.args.rule.now.state []) ++ (46 ∷ [] ++ left_text c.args.scale c.args.names.now c.args.labels.now c.args.rule.now)) tt _ (ap (λ (t : List ℕ). t ++ (46 ∷ [] ++ left_text c.args.scale c.args.names.now c.args.labels.now c.args.rule.now)) (text_at c.args.names.now c.args.rule.now.state c.text.result.now c.text.ensures)) c.in-Ok.ensures c.put_stop.ensures
+returns-in-Ok g c = seq (Unit {0}) (Unit {0}) Failed g.W.Sink.seen c.args.out.now c.put.new.out c.put_stop.new.out c.text.result.now (46 ∷ [] ++ left_text c.args.scale c.args.names.now c.args.labels.now c.args.rule.now) ((get_or c.args.names.now c.args.rule.now.state []) ++ (46 ∷ [] ++ left_text c.args.scale c.args.names.now c.args.labels.now c.args.rule.now)) tt _ (ap (λ (t : List ℕ). t ++ (46 ∷ [] ++ left_text c.args.scale c.args.names.now c.args.labels.now c.args.rule.now)) (text_at c.args.names.now c.args.rule.now.state c.text.result.now c.text.ensures)) c.in-Ok.ensures c.put_stop.ensures
 
 pub returns-in-Err : goal.returns-in-Err
-returns-in-Err g c = cut (Unit {0}) (Unit {0}) Failed g.W.Sink.written g.W.Sink.free g.W.Sink.faults c.args.out.now c.put.new.out c.text.result.now (46 ∷ [] ++ left_text c.args.scale c.args.names.now c.args.labels.now c.args.rule.now) ((get_or c.args.names.now c.args.rule.now.state []) ++ (46 ∷ [] ++ left_text c.args.scale c.args.names.now c.args.labels.now c.args.rule.now)) _ (ap (λ (t : List ℕ). t ++ (46 ∷ [] ++ left_text c.args.scale c.args.names.now c.args.labels.now c.args.rule.now)) (text_at c.args.names.now c.args.rule.now.state c.text.result.now c.text.ensures)) c.in-Err.ensures
+returns-in-Err g c = cut (Unit {0}) (Unit {0}) Failed g.W.Sink.seen c.args.out.now c.put.new.out c.text.result.now (46 ∷ [] ++ left_text c.args.scale c.args.names.now c.args.labels.now c.args.rule.now) ((get_or c.args.names.now c.args.rule.now.state []) ++ (46 ∷ [] ++ left_text c.args.scale c.args.names.now c.args.labels.now c.args.rule.now)) _ (ap (λ (t : List ℕ). t ++ (46 ∷ [] ++ left_text c.args.scale c.args.names.now c.args.labels.now c.args.rule.now)) (text_at c.args.names.now c.args.rule.now.state c.text.result.now c.text.ensures)) c.in-Err.ensures

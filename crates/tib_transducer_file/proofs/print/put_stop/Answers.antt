@@ -5,7 +5,7 @@ use Rattle.tib_transducer_file.specs.Printed.{left_text}
 use Rattle.tib_transducer_file.proofs.print.put_stop.Goals as goal
 
 pub returns-in-Ok : goal.returns-in-Ok
-returns-in-Ok g c = seq (Unit {0}) (Unit {0}) Failed g.W.Sink.written g.W.Sink.free g.W.Sink.faults c.args.out.now c.put.new.out c.put_left.new.out ((46 ∷ [])) (left_text c.args.scale c.args.names.now c.args.labels.now c.args.rule.now) ((46 ∷ []) ++ (left_text c.args.scale c.args.names.now c.args.labels.now c.args.rule.now)) tt _ refl c.in-Ok.ensures c.put_left.ensures
+returns-in-Ok g c = seq (Unit {0}) (Unit {0}) Failed g.W.Sink.seen c.args.out.now c.put.new.out c.put_left.new.out ((46 ∷ [])) (left_text c.args.scale c.args.names.now c.args.labels.now c.args.rule.now) ((46 ∷ []) ++ (left_text c.args.scale c.args.names.now c.args.labels.now c.args.rule.now)) tt _ refl c.in-Ok.ensures c.put_left.ensures
 
 pub returns-in-Err : goal.returns-in-Err
-returns-in-Err g c = cut (Unit {0}) (Unit {0}) Failed g.W.Sink.written g.W.Sink.free g.W.Sink.faults c.args.out.now c.put.new.out ((46 ∷ [])) (left_text c.args.scale c.args.names.now c.args.labels.now c.args.rule.now) ((46 ∷ []) ++ (left_text c.args.scale c.args.names.now c.args.labels.now c.args.rule.now)) _ refl c.in-Err.ensures
+returns-in-Err g c = cut (Unit {0}) (Unit {0}) Failed g.W.Sink.seen c.args.out.now c.put.new.out ((46 ∷ [])) (left_text c.args.scale c.args.names.now c.args.labels.now c.args.rule.now) ((46 ∷ []) ++ (left_text c.args.scale c.args.names.now c.args.labels.now c.args.rule.now)) _ refl c.in-Err.ensures
