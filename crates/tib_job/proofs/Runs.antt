@@ -5,8 +5,9 @@ use Rattle.std.proofs.Common.{arith, subst, sym, inl, inr}
 use Rattle.tib_io.specs.Causes.{Rose}
 use Rattle.tib_io.specs.Memory.{SinkThatGrows}
 use Rattle.tib_io.specs.Pieces.{front_whole}
-use Rattle.tib_io.specs.Writes.{Takes, TakesFront, Calm}
-use Rattle.tib_tree.specs.Wrote.{Wrote}
+use Rattle.tib_io.specs.Writes.{SinkSeen, Takes, TakesFront, Calm}
+use Rattle.tib_io.specs.Writing.{is_calm}
+use Rattle.tib_io.specs.Wrote.{Wrote}
 use Rattle.tib_command.specs.Jobs.{Asked}
 use Rattle.tib_operations.specs.declared.status.Status.{Status}
 use Rattle.tib_operations.specs.declared.status.Status.TheVariants as statuses
@@ -14,7 +15,7 @@ use Rattle.tib_job.specs.Answers.{IsAnswer, StandsStill, WithinIsNotTooMuch}
 use Rattle.tib_job.specs.Causes.{HasCause, IsEarly, bytes_of, levelled_of, product_of, scale_of}
 use Rattle.tib_job.specs.Kinds.{KindsHaveNoFault}
 use Rattle.tib_job.specs.Outcomes.{IsOutcome, setting_of}
-use Rattle.tib_job.specs.Run.{FilesSeen, SinkSeen, IsUntouched, IsRunOf, IsLogged}
+use Rattle.tib_job.specs.Run.{FilesSeen, IsUntouched, IsRunOf, IsLogged}
 use Rattle.tib_job.specs.Steps.{LeavesFiles, EndsRun, WritesOutcome}
 use Rattle.tib_job.specs.Values.{AreValuesOf}
 use Rattle.tib_job.specs.declared.job_values.Values.{Values}
@@ -98,7 +99,7 @@ module _ (no_fault : KindsHaveNoFault) (apart : WithinIsNotTooMuch) where
   module _
       (asked : Asked) (before after : FilesSeen) (old new : SinkSeen) (text : List ℕ) (answers : IsAnswer asked before.held text) (later : old.faults ≤ new.faults)
       (calm : Calm old.free (length text) old.faults new.faults) (left : LeavesFiles before after) where
-    pub answered : Takes old.written new.written old.free new.free text → new.finished ≡ true → new.faults ≡ old.faults → IsRunOf (Some asked) before after old new statuses.Done
+    pub answered : Takes old new text → new.finished ≡ true → new.faults ≡ old.faults → IsRunOf (Some asked) before after old new statuses.Done
     answered taken finished steady = record {
       cause = refl;
       earlier = tt;
@@ -116,7 +117,7 @@ module _ (no_fault : KindsHaveNoFault) (apart : WithinIsNotTooMuch) where
       complete = complete no_fault apart (Some asked) before.held before.faults after.faults old.faults new.faults statuses.Done refl;
     }
 
-    pub cut_short : TakesFront old.written new.written old.free new.free text → Rose old.faults new.faults → new.finished ≡ false → IsRunOf (Some asked) before after old new statuses.WriteFault
+    pub cut_short : TakesFront old new text → Rose old.faults new.faults → new.finished ≡ false → IsRunOf (Some asked) before after old new statuses.WriteFault
     cut_short front rose unfinished = record {
       cause = (refl, rose);
       earlier = tt;
@@ -162,16 +163,22 @@ module _ (no_fault : KindsHaveNoFault) (apart : WithinIsNotTooMuch) where
 
 -- the line on the log
 pub logged :
-    {T E : Type 0} (old new : SinkSeen) (line : List ℕ) (result : Result T E) → Wrote old.written new.written old.free new.free old.faults new.faults line result → IsLogged line old new
+    {T E : Type 0} (old new : SinkSeen) (line : List ℕ) (result : Result T E) → Wrote old new line result → IsLogged line old new
 logged old new line (Ok done) w = record {
-  front = front_whole old.written new.written old.free new.free line w.ok;
+  front = front_whole old new line w.ok;
   whole = λ below still. w.ok;
   later = w.later;
-  still = w.calm;
+  still = is_calm old new line (Ok done) w;
+  unfinished = w.unfinished;
+  written = w.written;
+  broken = λ changed. absurd (changed w.steady);
 }
 logged old new line (Err e) w = record {
   front = w.err;
   whole = λ below still. let rose : Rose old.faults new.faults = w.cause in absurd (omega arith);
   later = w.later;
-  still = w.calm;
+  still = is_calm old new line (Err e) w;
+  unfinished = w.unfinished;
+  written = w.written;
+  broken = λ changed. w.broken;
 }

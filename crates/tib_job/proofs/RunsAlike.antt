@@ -4,7 +4,8 @@ use Rattle.std.proofs.Common.{subst}
 use Rattle.tib_command.specs.Jobs.{Asked}
 use Rattle.tib_operations.specs.declared.status.Status.{Status}
 use Rattle.tib_job.specs.Answers.{IsCalm, EndsCalmly}
-use Rattle.tib_job.specs.Run.{FilesSeen, SinkSeen, IsRunOf, RunsEndAlike}
+use Rattle.tib_io.specs.Writes.{SinkSeen}
+use Rattle.tib_job.specs.Run.{FilesSeen, IsRunOf, RunsEndAlike}
 use Rattle.tib_job.proofs.FilesAsked.{files_asked}
 use Rattle.tib_job.proofs.OneStatus.{one_status}
 

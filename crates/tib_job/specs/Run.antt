@@ -1,7 +1,7 @@
 -- What a run promises of its files, its output and its log.
 use Rattle.std.specs.Prelude.{◌≡◌, ℕ, ◌<◌, ◌≤◌, Bool, true, false, List, length, Option, Some, None}
 use Rattle.tib_io.specs.Causes.{GoesOn, last_count}
-use Rattle.tib_io.specs.Writes.{Takes, TakesFront, Calm}
+use Rattle.tib_io.specs.Writes.{SinkSeen, Takes, TakesFront, Calm}
 use Rattle.tib_command.specs.Jobs.{Asked, job_of}
 use Rattle.tib_operations.specs.declared.status.Status.{Status}
 use Rattle.tib_operations.specs.declared.status.Status.TheVariants as statuses
@@ -15,31 +15,20 @@ pub record FilesSeen : Type 0 where
   pub sure : List ℕ → Bool
   pub faults : List ℕ → ℕ
 
--- what is seen of a sink: the bytes that it took and how many it still takes, where these are
--- known, how often it failed, and whether it is finished
-pub record SinkSeen : Type 0 where
-  pub written : Option (List ℕ)
-  pub free : Option ℕ
-  pub faults : ℕ
-  pub finished : Bool
-
 abbrev pub files_seen : {F : Type 0} → (F → List ℕ → Option (List ℕ)) → (F → List ℕ → Bool) → (F → List ℕ → ℕ) → F → FilesSeen
 files_seen held sure faults files = record { held = held files; sure = sure files; faults = faults files }
-
-abbrev pub sink_seen : {W : Type 0} → (W → Option (List ℕ)) → (W → Option ℕ) → (W → ℕ) → (W → Bool) → W → SinkSeen
-sink_seen written free faults finished sink = record { written = written sink; free = free sink; faults = faults sink; finished = finished sink }
 
 -- the sink took such a text, and its room fell by the text's length
 pub record TakesText (IsText : List ℕ → Type 0) (old new : SinkSeen) : Type 0 where
   pub text : List ℕ
   pub answers : IsText text
-  pub taken : Takes old.written new.written old.free new.free text
+  pub taken : Takes old new text
 
 -- the sink took a front of such a text, and its room fell by the front's length
 pub record TakesFrontOfText (IsText : List ℕ → Type 0) (old new : SinkSeen) : Type 0 where
   pub text : List ℕ
   pub answers : IsText text
-  pub front : TakesFront old.written new.written old.free new.free text
+  pub front : TakesFront old new text
 
 -- the output took an answer of the job
 abbrev pub TakesAnswer : Option Asked → (List ℕ → Option (List ℕ)) → SinkSeen → SinkSeen → Type 0
@@ -93,13 +82,17 @@ pub record IsRunOf (job : Option Asked) (before after : FilesSeen) (old new : Si
 -- What a run promises of its log, which this line goes to.
 pub record IsLogged (line : List ℕ) (old new : SinkSeen) : Type 0 where
   -- the log took a front of the line, and its room fell by the front's length
-  pub front : TakesFront old.written new.written old.free new.free line
+  pub front : TakesFront old new line
   -- the whole line where its count, below the last value, does not change
-  pub whole : old.faults < last_count → new.faults ≡ old.faults → Takes old.written new.written old.free new.free line
+  pub whole : old.faults < last_count → new.faults ≡ old.faults → Takes old new line
   -- the log's count of faults does not fall
   pub later : old.faults ≤ new.faults
   -- and does not change where there is room for the line
   pub still : Calm old.free (length line) old.faults new.faults
+  -- the log is not finished: it is unfinished if it was, once a byte was written, and after a fault
+  pub unfinished : old.finished ≡ false → new.finished ≡ false
+  pub written : 0 < length line → new.finished ≡ false
+  pub broken : (new.faults ≡ old.faults → ⊥) → new.finished ≡ false
 
 -- two runs on the same words, over files that report the same bytes, in which no count rises, end
 -- with one status

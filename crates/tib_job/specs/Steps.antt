@@ -3,12 +3,12 @@
 use Rattle.std.specs.Prelude.{◌≡◌, ◌≤◌, ◌⊎◌, ℕ, true, false, List, length, Option, Result, Ok, Err}
 use Rattle.tib_io.specs.Causes.{GoesOn, Rose}
 use Rattle.tib_io.specs.Memory.{SinkThatGrows}
-use Rattle.tib_io.specs.Writes.{Takes, TakesFront, Calm}
+use Rattle.tib_io.specs.Writes.{SinkSeen, Takes, TakesFront, Calm}
 use Rattle.tib_command.specs.Jobs.{Asked}
 use Rattle.tib_operations.specs.declared.status.Status.{Status}
 use Rattle.tib_operations.specs.declared.status.Status.TheVariants as statuses
 use Rattle.tib_job.specs.Causes.{HasCause, HasEarlier, IsAbout, IsEarly}
-pub use Rattle.tib_job.specs.Run.{FilesSeen, SinkSeen, files_seen, sink_seen}
+pub use Rattle.tib_job.specs.Run.{FilesSeen, files_seen}
 
 -- What a step leaves of the files.
 pub record LeavesFiles (before after : FilesSeen) : Type 0 where
@@ -38,14 +38,14 @@ pub record StopsAtFile (job : Option Asked) (file : ℕ) (before after : FilesSe
 -- the run is done: the text was taken whole, and the output is finished and did not fail
 pub record HasWritten (text : List ℕ) (old new : SinkSeen) (status : Status) : Type 0 where
   pub is_done : status ≡ statuses.Done
-  pub taken : Takes old.written new.written old.free new.free text
+  pub taken : Takes old new text
   pub finished : new.finished ≡ true
   pub steady : new.faults ≡ old.faults
 
 -- the output failed after a front of the text, and is not finished
 pub record HasWrittenFront (text : List ℕ) (old new : SinkSeen) (status : Status) : Type 0 where
   pub is_fault : status ≡ statuses.WriteFault
-  pub front : TakesFront old.written new.written old.free new.free text
+  pub front : TakesFront old new text
   pub rose : Rose old.faults new.faults
   pub unfinished : new.finished ≡ false
 

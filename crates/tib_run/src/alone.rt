@@ -2,7 +2,7 @@
 ghost use Rattle.std.specs.Prelude.{◌≡◌, Some, map, string_bytes};
 ghost use Rattle.tib_command.specs.Jobs.{job_of, meaning};
 ghost use Rattle.tib_job.specs.Causes.{levelled_of, scale_of, product_of};
-ghost use Rattle.tib_job.specs.Run.{IsRunOf, files_seen, sink_seen};
+ghost use Rattle.tib_job.specs.Run.{IsRunOf, files_seen};
 ghost use Rattle.tib_job.specs.Steps.{WritesOutcome};
 ghost use Rattle.tib_run.specs.Jobs.{IsWellFormed};
 
@@ -19,8 +19,7 @@ use tib_tree::Labels;
 
 /// Writes a text, where there is one, and returns the status with which the run ends.
 pub(crate) fn write_outcome<O: Sink>(out: &mut O, outcome: Result<GrowingSink, Status>) -> Status
-    ensures { WritesOutcome outcome (sink_seen O.written O.free O.faults O.finished out.old)
-        (sink_seen O.written O.free O.faults O.finished out.new) result }
+    ensures { WritesOutcome outcome (O.seen out.old) (O.seen out.new) result }
 {
     match outcome {
         Ok(text) => match write_and_finish(out, text.bytes()) {
@@ -46,8 +45,7 @@ fn answer_job<S: Semiring + Sync + Drop, R: Threads + Sync, F: Files, O: Sink, G
     requires product { S.product ≡ product_of job.now.mode }
     ensures { IsRunOf (Some (meaning job.now))
         (files_seen F.held F.sure F.faults files.old) (files_seen F.held F.sure F.faults files.new)
-        (sink_seen O.written O.free O.faults O.finished out.old)
-        (sink_seen O.written O.free O.faults O.finished out.new) result }
+        (O.seen out.old) (O.seen out.new) result }
 {
     files_have_no_fault();
     within_or_too_many();
@@ -74,8 +72,7 @@ pub(crate) fn perform_job<R: Threads + Sync, F: Files, O: Sink, G: Gate>(
     requires job { IsWellFormed job.now }
     ensures { IsRunOf (Some (meaning job.now))
         (files_seen F.held F.sure F.faults files.old) (files_seen F.held F.sure F.faults files.new)
-        (sink_seen O.written O.free O.faults O.finished out.old)
-        (sink_seen O.written O.free O.faults O.finished out.new) result }
+        (O.seen out.old) (O.seen out.new) result }
 {
     match job.mode {
         Mode::MinPlus => answer_job::<MinPlus, R, F, O, G>(rt, alloc, job, files, out, gate),
@@ -96,8 +93,7 @@ pub(crate) fn perform<R: Threads + Sync, F: Files, O: Sink, G: Gate>(
 ) -> Status
     ensures { IsRunOf (job_of (map (λ s. string_bytes s) words.now))
         (files_seen F.held F.sure F.faults files.old) (files_seen F.held F.sure F.faults files.new)
-        (sink_seen O.written O.free O.faults O.finished out.old)
-        (sink_seen O.written O.free O.faults O.finished out.new) result }
+        (O.seen out.old) (O.seen out.new) result }
 {
     files_have_no_fault();
     within_or_too_many();

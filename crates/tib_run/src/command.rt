@@ -2,7 +2,7 @@
 ghost use Rattle.std.specs.Prelude.{map, string_bytes};
 ghost use Rattle.tib_command.specs.Jobs.{job_of};
 ghost use Rattle.tib_run.specs.Log.{line_of};
-ghost use Rattle.tib_job.specs.Run.{IsRunOf, IsLogged, files_seen, sink_seen};
+ghost use Rattle.tib_job.specs.Run.{IsRunOf, IsLogged, files_seen};
 
 use crate::alone::perform;
 use crate::log::tell;
@@ -28,11 +28,8 @@ pub fn run_alone<R: Threads + Sync, F: Files, O: Sink, E: Sink, G: Gate + Sync>(
 ) -> Status
     ensures run { IsRunOf (job_of (map (λ s. string_bytes s) words.now))
         (files_seen F.held F.sure F.faults files.old) (files_seen F.held F.sure F.faults files.new)
-        (sink_seen O.written O.free O.faults O.finished out.old)
-        (sink_seen O.written O.free O.faults O.finished out.new) result }
-    ensures log { IsLogged (line_of result)
-        (sink_seen E.written E.free E.faults E.finished log.old)
-        (sink_seen E.written E.free E.faults E.finished log.new) }
+        (O.seen out.old) (O.seen out.new) result }
+    ensures log { IsLogged (line_of result) (E.seen log.old) (E.seen log.new) }
 {
     let status = perform::<R, F, O, G>(rt, alloc, words, files, out, gate);
     let _ = tell(log, &status);
@@ -45,7 +42,8 @@ pub fn run_alone<R: Threads + Sync, F: Files, O: Sink, E: Sink, G: Gate + Sync>(
 /// reports on the log why it did not end with `Done`. Each status comes only with its cause, and
 /// after every status but `Done` and `WriteFault` the whole of `out` is as it was. After `Done` the
 /// whole answer was written, and `out` is finished; after `WriteFault` a front of it was. What was
-/// written on `out` and on the log is taken from the room that they report.
+/// written on `out` and on the log is taken from the room that they report. It does not finish the
+/// log.
 pub fn run<R: Threads + Wait + Sync, F: Files, O: Sink, E: Sink, G: Gate + Sync>(
     rt: &R,
     alloc: Global,
@@ -57,11 +55,8 @@ pub fn run<R: Threads + Wait + Sync, F: Files, O: Sink, E: Sink, G: Gate + Sync>
 ) -> Status
     ensures run { IsRunOf (job_of (map (λ s. string_bytes s) words.now))
         (files_seen F.held F.sure F.faults files.old) (files_seen F.held F.sure F.faults files.new)
-        (sink_seen O.written O.free O.faults O.finished out.old)
-        (sink_seen O.written O.free O.faults O.finished out.new) result }
-    ensures log { IsLogged (line_of result)
-        (sink_seen E.written E.free E.faults E.finished log.old)
-        (sink_seen E.written E.free E.faults E.finished log.new) }
+        (O.seen out.old) (O.seen out.new) result }
+    ensures log { IsLogged (line_of result) (E.seen log.old) (E.seen log.new) }
 {
     let status = perform_together::<R, F, O, G>(rt, alloc, words, files, out, gate);
     let _ = tell(log, &status);

@@ -1,6 +1,6 @@
 // The line on the log.
 ghost use Rattle.std.specs.Prelude.{◌≡◌, ◌++◌, decimal};
-ghost use Rattle.tib_tree.specs.Wrote.{Wrote};
+ghost use Rattle.tib_io.specs.Wrote.{Wrote};
 ghost use Rattle.tib_run.specs.Log.{class_words, kind_words, line_of, plain_line_of};
 
 use itoa::Buffer;
@@ -51,8 +51,7 @@ fn write_behind<W: Sink>(
     first: &[u8],
     second: &[u8],
 ) -> Result<(), Failed>
-    ensures { Wrote (W.written out.old) (W.written out.new) (W.free out.old) (W.free out.new)
-        (W.faults out.old) (W.faults out.new)
+    ensures { Wrote (W.seen out.old) (W.seen out.new)
         (decimal number ++ first.now ++ second.now) result }
 {
     let mut buffer = Buffer::new();
@@ -72,8 +71,7 @@ fn write_place<W: Sink>(
     c: &[u8],
     d: &[u8],
 ) -> Result<(), Failed>
-    ensures { Wrote (W.written out.old) (W.written out.new) (W.free out.old) (W.free out.new)
-        (W.faults out.old) (W.faults out.new)
+    ensures { Wrote (W.seen out.old) (W.seen out.new)
         ((a.now ++ decimal file ++ b.now) ++ (decimal line ++ c.now ++ d.now)) result }
 {
     match write_about(out, a, u64::from(file), b) {
@@ -85,9 +83,7 @@ fn write_place<W: Sink>(
 /// Writes the line of a status, and nothing for the one of a run that is done. It takes no memory.
 /// It fails only where the log does; a front of the line is then written.
 pub fn tell<W: Sink>(log: &mut W, status: &Status) -> Result<(), Failed>
-    ensures { Wrote (W.written log.old) (W.written log.new) (W.free log.old) (W.free log.new)
-        (W.faults log.old) (W.faults log.new)
-        (line_of status.now) result }
+    ensures { Wrote (W.seen log.old) (W.seen log.new) (line_of status.now) result }
 {
     match *status {
         Status::BadInput { file, fault } => write_place(

@@ -2,7 +2,7 @@
 ghost use Rattle.std.specs.Prelude.{◌≡◌, Some, map, string_bytes};
 ghost use Rattle.tib_command.specs.Jobs.{job_of, meaning};
 ghost use Rattle.tib_job.specs.Causes.{levelled_of, scale_of, product_of};
-ghost use Rattle.tib_job.specs.Run.{IsRunOf, files_seen, sink_seen};
+ghost use Rattle.tib_job.specs.Run.{IsRunOf, files_seen};
 ghost use Rattle.tib_run.specs.Jobs.{IsWellFormed};
 
 use crate::alone::{perform_job, write_outcome};
@@ -32,8 +32,7 @@ fn answer_together<
     requires product { S.product ≡ product_of job.now.mode }
     ensures { IsRunOf (Some (meaning job.now))
         (files_seen F.held F.sure F.faults files.old) (files_seen F.held F.sure F.faults files.new)
-        (sink_seen O.written O.free O.faults O.finished out.old)
-        (sink_seen O.written O.free O.faults O.finished out.new) result }
+        (O.seen out.old) (O.seen out.new) result }
 {
     files_have_no_fault();
     within_or_too_many();
@@ -60,8 +59,7 @@ fn perform_job_together<R: Threads + Wait + Sync, F: Files, O: Sink, G: Gate + S
     requires job { IsWellFormed job.now }
     ensures { IsRunOf (Some (meaning job.now))
         (files_seen F.held F.sure F.faults files.old) (files_seen F.held F.sure F.faults files.new)
-        (sink_seen O.written O.free O.faults O.finished out.old)
-        (sink_seen O.written O.free O.faults O.finished out.new) result }
+        (O.seen out.old) (O.seen out.new) result }
 {
     if job.workers == 1 {
         return perform_job::<R, F, O, G>(rt, alloc, job, files, out, gate);
@@ -87,8 +85,7 @@ pub(crate) fn perform_together<R: Threads + Wait + Sync, F: Files, O: Sink, G: G
 ) -> Status
     ensures { IsRunOf (job_of (map (λ s. string_bytes s) words.now))
         (files_seen F.held F.sure F.faults files.old) (files_seen F.held F.sure F.faults files.new)
-        (sink_seen O.written O.free O.faults O.finished out.old)
-        (sink_seen O.written O.free O.faults O.finished out.new) result }
+        (O.seen out.old) (O.seen out.new) result }
 {
     files_have_no_fault();
     within_or_too_many();

@@ -1,6 +1,6 @@
 // `check`: the classes of a transducer, and which rule decides each.
 ghost use Rattle.std.specs.Prelude.{◌≡◌, ◌++◌, Some, IfOk, OnOk};
-ghost use Rattle.tib_io.specs.Writes.{Takes};
+ghost use Rattle.tib_io.specs.Wrote.{Wrote};
 ghost use Rattle.tib_transducer.specs.Classes.{IsLinear, IsNondeleting, IsExtended, IsLabelled};
 ghost use Rattle.tib_operations.specs.Check.{IsFirstSuch, HasClasses, class_line};
 
@@ -45,8 +45,7 @@ fn write_class<W: Sink>(
     some: &[u8],
     rule: Option<u32>,
 ) -> Result<(), Failed>
-    ensures { OnOk result (Takes (W.written out.old) (W.written out.new) (W.free out.old)
-        (W.free out.new) (class_line none.now some.now rule)) }
+    ensures { Wrote (W.seen out.old) (W.seen out.new) (class_line none.now some.now rule) result }
 {
     match rule {
         None => write_whole(out, none),

@@ -1,6 +1,6 @@
 // `inside`: each state of a grammar with its inside cost.
 ghost use Rattle.std.specs.Prelude.{◌≡◌, ◌++◌, length, IfOk, OnOk};
-ghost use Rattle.tib_io.specs.Writes.{Takes};
+ghost use Rattle.tib_io.specs.Wrote.{Wrote};
 ghost use Rattle.tib_operations.specs.Text.{inside_line, inside_lines};
 
 use crate::text::print_cost;
@@ -11,14 +11,12 @@ use tib_inside::inside;
 use tib_io::{Failed, GrowingSink, Sink, write_whole};
 
 // Writes the line of a state with its inside cost.
-#[tactic(auto, using(tib_io::specs::Pieces::takes_more))]
 fn print_state<S: Semiring, W: Sink>(
     name: &[u8],
     cost: Option<Cost>,
     out: &mut W,
 ) -> Result<(), Failed>
-    ensures { OnOk result (Takes (W.written out.old) (W.written out.new) (W.free out.old)
-        (W.free out.new) (inside_line S.SCALE name.now cost)) }
+    ensures { Wrote (W.seen out.old) (W.seen out.new) (inside_line S.SCALE name.now cost) result }
 {
     match write_whole(out, name) {
         Ok(()) => print_cost::<S, W>(cost, out),

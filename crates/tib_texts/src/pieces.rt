@@ -1,6 +1,6 @@
 // The writing of a text in pieces.
 ghost use Rattle.std.specs.Prelude.{◌++◌, decimal};
-ghost use Rattle.tib_tree.specs.Wrote.{Wrote};
+ghost use Rattle.tib_io.specs.Wrote.{Wrote};
 
 use itoa::Buffer;
 use tib_io::{Failed, Sink, write_whole};
@@ -8,9 +8,7 @@ use tib_io::{Failed, Sink, write_whole};
 /// Writes a piece. It takes no memory. It fails only where the output does; a front of the piece is
 /// then written.
 pub fn write_piece<W: Sink>(out: &mut W, piece: &[u8]) -> Result<(), Failed>
-    ensures { Wrote (W.written out.old) (W.written out.new) (W.free out.old) (W.free out.new)
-        (W.faults out.old) (W.faults out.new)
-        piece.now result }
+    ensures { Wrote (W.seen out.old) (W.seen out.new) piece.now result }
 {
     write_whole(out, piece)
 }
@@ -18,9 +16,7 @@ pub fn write_piece<W: Sink>(out: &mut W, piece: &[u8]) -> Result<(), Failed>
 /// Writes two pieces. It takes no memory. It fails only where the output does; a front of both is
 /// then written.
 pub fn write_both<W: Sink>(out: &mut W, first: &[u8], second: &[u8]) -> Result<(), Failed>
-    ensures { Wrote (W.written out.old) (W.written out.new) (W.free out.old) (W.free out.new)
-        (W.faults out.old) (W.faults out.new)
-        (first.now ++ second.now) result }
+    ensures { Wrote (W.seen out.old) (W.seen out.new) (first.now ++ second.now) result }
 {
     match write_piece(out, first) {
         Ok(()) => write_piece(out, second),
@@ -36,8 +32,7 @@ pub fn write_about<W: Sink>(
     number: u64,
     last: &[u8],
 ) -> Result<(), Failed>
-    ensures { Wrote (W.written out.old) (W.written out.new) (W.free out.old) (W.free out.new)
-        (W.faults out.old) (W.faults out.new)
+    ensures { Wrote (W.seen out.old) (W.seen out.new)
         (first.now ++ decimal number ++ last.now) result }
 {
     let mut buffer = Buffer::new();

@@ -1,7 +1,7 @@
 // The text of weighed trees.
 ghost use Rattle.std.specs.Prelude.{◌≡◌, ◌+◌, ◌<◌, ◌++◌, length, IfOk, OnOk};
 ghost use Rattle.std.specs.Thread.{IsSync};
-ghost use Rattle.tib_io.specs.Writes.{Takes};
+ghost use Rattle.tib_io.specs.Wrote.{Wrote};
 ghost use Rattle.tib_lex.specs.Lists.{Each};
 ghost use Rattle.tib_tree.specs.Growth.{HasLabels};
 ghost use Rattle.tib_operations.specs.Text.{cost_text, weighed_line, weighed_lines};
@@ -17,8 +17,7 @@ use tib_weigh::{LEAST_PIECE, halvings, middle_of};
 /// Writes what follows a tree or a state: its cost, which in Boolean is not printed, or that it has
 /// none. It fails only where the output does; a front of the text is then written.
 pub fn print_cost<S: Semiring, W: Sink>(cost: Option<Cost>, out: &mut W) -> Result<(), Failed>
-    ensures { OnOk result (Takes (W.written out.old) (W.written out.new) (W.free out.old)
-        (W.free out.new) (cost_text S.SCALE cost)) }
+    ensures { Wrote (W.seen out.old) (W.seen out.new) (cost_text S.SCALE cost) result }
 {
     match cost {
         None => write_whole(out, b" # none\n"),
@@ -33,7 +32,6 @@ pub fn print_cost<S: Semiring, W: Sink>(cost: Option<Cost>, out: &mut W) -> Resu
 }
 
 // Writes the line of a weighed tree.
-#[tactic(auto, using(tib_io::specs::Pieces::takes_more))]
 fn print_line<S: Semiring, W: Sink>(
     tree: &Tree,
     labels: &Labels,
@@ -41,8 +39,8 @@ fn print_line<S: Semiring, W: Sink>(
     out: &mut W,
 ) -> Result<(), Failed>
     requires { HasLabels labels.now tree.now }
-    ensures { OnOk result (Takes (W.written out.old) (W.written out.new) (W.free out.old)
-        (W.free out.new) (weighed_line S.SCALE labels.now tree.now cost)) }
+    ensures { Wrote (W.seen out.old) (W.seen out.new)
+        (weighed_line S.SCALE labels.now tree.now cost) result }
 {
     match print_tree(tree, labels, out) {
         Ok(()) => print_cost::<S, W>(cost, out),

@@ -54,13 +54,7 @@ impl<F: Files> Files for Watched<F> {
 }
 
 impl<W: Sink> Sink for Watched<W> {
-    ghost written = { λ s. W.written s.inner };
-
-    ghost faults = { λ s. W.faults s.inner };
-
-    ghost finished = { λ s. W.finished s.inner };
-
-    ghost free = { λ s. W.free s.inner };
+    ghost seen = { λ s. W.seen s.inner };
 
     fn write(&mut self, piece: &[u8]) -> Result<usize, Failed> {
         self.calls = self.calls.saturating_add(1);

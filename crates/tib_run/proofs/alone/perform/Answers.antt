@@ -1,6 +1,6 @@
 use Rattle.std.proofs.Common.{Option, subst, sym, arith}
 use Rattle.tib_command.specs.Jobs.{Asked}
-use Rattle.tib_job.specs.Run.{IsRunOf, files_seen, sink_seen}
+use Rattle.tib_job.specs.Run.{IsRunOf, files_seen}
 use Rattle.tib_job.proofs.Runs.{no_command, no_memory}
 use Rattle.tib_run.proofs.alone.perform.Goals as goal
 
@@ -8,7 +8,7 @@ pub returns-in-Ok : goal.returns-in-Ok
 returns-in-Ok g c =
     subst (λ (job : Option Asked).
     IsRunOf job (files_seen g.F.Files.held g.F.Files.sure g.F.Files.faults c.args.files.now) (files_seen g.F.Files.held g.F.Files.sure g.F.Files.faults c.perform_job.new.files)
-    (sink_seen g.O.Sink.written g.O.Sink.free g.O.Sink.faults g.O.Sink.finished c.args.out.now) (sink_seen g.O.Sink.written g.O.Sink.free g.O.Sink.faults g.O.Sink.finished c.perform_job.new.out) c.perform_job.result)
+    (g.O.Sink.seen c.args.out.now) (g.O.Sink.seen c.perform_job.new.out) c.perform_job.result)
     (sym c.in-Ok.ensures.ok) c.perform_job.ensures
 
 pub returns-in-Err-Usage : goal.returns-in-Err-Usage
