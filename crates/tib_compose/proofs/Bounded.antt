@@ -24,6 +24,7 @@ use Rattle.tib_compose.specs.Walk.{AreReady}
 use Rattle.tib_compose.specs.Bounding.{BoundsReader, BoundsNode}
 use Rattle.tib_compose.specs.Bounds.{AreBounds, SetsBound}
 use Rattle.tib_compose.specs.Ends.{AreEnds}
+use Rattle.tib_compose.specs.Plenties.{ArePlenties}
 use Rattle.tib_compose.proofs.Taking.{side_by_item}
 use Rattle.tib_compose.specs.Sources.{PutsPieces, IsSource}
 use Rattle.tib_compose.specs.PieceViews.{kids_there, side_there}
@@ -129,9 +130,9 @@ whole_has (x ∷ xs) (suc i) m low h = elim h [ inl e ↦ inl e | inr k ↦ inr 
 -- one bound is set
 pub set_keeps :
     {levelled weighted : Bool} {product : ℕ → ℕ → ℕ} (laws : ProductLaws levelled weighted product) (two : List (TransducerRule ℕ)) (old new : Source) (f n node state : ℕ) (v : Option ℕ) →
-    new.items ≡ old.items → new.ends ≡ old.ends → SetsBound node state v old.bounds new.bounds → node < length old.items.now → get_or old.items.now node (Label 0 0) ≡ Label f n →
+    new.items ≡ old.items → new.ends ≡ old.ends → new.plenties ≡ old.plenties → SetsBound node state v old.bounds new.bounds → node < length old.items.now → get_or old.items.now node (Label 0 0) ≡ Label f n →
     BoundsNode product two old (record { node = node; label = f; rank = n; state = state }) v → AreReady product two → IsSource product two old → IsSource product two new
-set_keeps {product = product} laws two old new f n node state v same ends sets low at bound ready known =
+set_keeps {product = product} laws two old new f n node state v same ends plenties sets low at bound ready known =
     let pairs : List (Symbol ℕ (Pair ℕ) × ℕ) = pairs_of old.items.now in
     let kids : Trees (Symbol ℕ (Pair ℕ)) = kids_there pairs node n in
     let many : count kids ≡ n = kids_count old.items.now node f n known.children low at in
@@ -154,4 +155,5 @@ set_keeps {product = product} laws two old new f n node state v same ends sets l
       children = subst (λ (xs : Bor (List (Item (Pair ℕ)))). HasChildren (pairs_of xs.now)) (sym same) known.children;
       ends = subst (λ (xs : Bor (List (Item (Pair ℕ)))). AreEnds (pairs_of xs.now) new.ends.items 0) (sym same) (subst (λ (es : Vec ℕ). AreEnds pairs es.items 0) (sym ends) known.ends);
       bounds = subst (λ (xs : Bor (List (Item (Pair ℕ)))). AreBounds product two (pairs_of xs.now) new.bounds) (sym same) bounds;
+      plenties = subst (λ (xs : Bor (List (Item (Pair ℕ)))). ArePlenties product two (pairs_of xs.now) new.plenties) (sym same) (subst (ArePlenties product two pairs) (sym plenties) known.plenties);
     }

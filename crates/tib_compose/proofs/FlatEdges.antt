@@ -157,7 +157,7 @@ are_ready laws two shaped leaves = record { shaped = shaped; goes = goes_by_piec
 pub there : (one rules : List (TransducerRule ℕ)) (n : ℕ) (r : TransducerRule ℕ) → rules ≡ one → n < length one → (n < length rules → (d : TransducerRule ℕ) → r ≡ transducer_rule rules n) → r ≡ transducer_rule one n
 there one rules n r e low f = f (subst (λ rs. n < length rs) (sym e) low) no_rule ∙ ap (λ rs. transducer_rule rs n) e
 
-any_at : (xs : List ℕ) (i d e : ℕ) → i < length xs → get_or xs i d ≡ get_or xs i e
+pub any_at : (xs : List ℕ) (i d e : ℕ) → i < length xs → get_or xs i d ≡ get_or xs i e
 any_at [] i d e h = absurd (omega arith)
 any_at (x ∷ xs) zero d e h = refl
 any_at (x ∷ xs) (suc i) d e h = any_at xs i d e (omega arith)

@@ -13,4 +13,5 @@ mod FlatEdges
 mod Expanded
 pub mod Hunted
 mod Bounded
+mod Plenties
 pub mod Faults

@@ -43,7 +43,7 @@ not_some c e = cc
 is_the : (n c : ℕ) → ◌≡◌ {A = Option ℕ} (Some n) (Some c) → n ≡ c
 is_the n c e = cc
 
-some_cut : (n c : ℕ) → cut n ≡ Some c → n ≡ c
+pub some_cut : (n c : ℕ) → cut n ≡ Some c → n ≡ c
 some_cut n c e = elim (nat_le_cases n most) [
   | inl k ↦ is_the n c (subst (λ b. (if b then Some n else None) ≡ Some c) k.1 e)
   | inr k ↦ absurd (not_some c (subst (λ b. (if b then Some n else None) ≡ Some c) k.1 e))

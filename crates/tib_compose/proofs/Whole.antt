@@ -33,7 +33,7 @@ use Rattle.tib_compose.specs.declared.source.Source.{Source}
 use Rattle.tib_compose.proofs.Walking.{total_front, all_append}
 
 -- the first tree of what is put out in place of a hole
-first_out : {A : Type 0} {P : Type 0} (z : P) (n : ℕ) (us : Trees (Symbol ℕ A)) → first_of (label 0) (parse (substituted ((hole z, n) ∷ []) us)) ≡ first_of (label 0) us
+pub first_out : {A : Type 0} {P : Type 0} (z : P) (n : ℕ) (us : Trees (Symbol ℕ A)) → first_of (label 0) (parse (substituted ((hole z, n) ∷ []) us)) ≡ first_of (label 0) us
 first_out z n none = refl
 first_out {A} z n (tree s below rest) =
     ap (λ ks. record { label = s; kids = first_trees (count below) ks }) (parse-preorder below [])

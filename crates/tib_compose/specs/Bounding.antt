@@ -37,7 +37,7 @@ module _ (product : ℕ → ℕ → ℕ) (two : List (TransducerRule ℕ)) (sour
   abbrev pub BoundsNode : Reading → Option ℕ → Type 0
   BoundsNode r v = AreReady product two → IsSource product two source → (m : ℕ) → Has (readers_with (r.state, r.label, r.rank) two) m → IsBelow r.node r.rank m v
 
--- only bounds change, and they stay bounds
+-- only bounds and what is known of how many translations there are change, and they stay true
 pub record KeepsSource (product : ℕ → ℕ → ℕ) (two : List (TransducerRule ℕ)) (old new : Source) : Type 0 where
   pub items : new.items ≡ old.items
   pub known : AreReady product two → IsSource product two old → IsSource product two new

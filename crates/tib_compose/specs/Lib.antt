@@ -8,6 +8,7 @@ pub mod PieceViews
 pub mod Pending
 pub mod Branches
 pub mod Bounds
+pub mod Plenties
 pub mod Sources
 pub mod CompositionListing
 pub mod Searches
@@ -16,4 +17,5 @@ pub mod KeyEdges
 pub mod FlatSides
 pub mod Composed
 pub mod Bounding
+pub mod Counting
 pub mod Faults

@@ -10,14 +10,17 @@ use Rattle.tib_compose.specs.Bounds.{AreBounds}
 use Rattle.tib_compose.specs.Ends.{AreEnds}
 use Rattle.tib_compose.specs.Pending.{Extends, Holds}
 use Rattle.tib_compose.specs.PieceViews.{AreKnown, kids_there}
+use Rattle.tib_compose.specs.Plenties.{ArePlenties}
 use Rattle.tib_compose.specs.declared.pending.Pending.{Pending}
 use Rattle.tib_compose.specs.declared.source.Source.{Source}
 
--- the items are those of a tree, each with its end, and the bounds are those of its translations
+-- the items are those of a tree, each with its end, the bounds are those of its translations, and
+-- there are as many of these as are known
 pub record IsSource (product : ℕ → ℕ → ℕ) (two : List (TransducerRule ℕ)) (source : Source) : Type 0 where
   pub children : HasChildren (pairs_of source.items.now)
   pub ends : AreEnds (pairs_of source.items.now) source.ends.items 0
   pub bounds : AreBounds product two (pairs_of source.items.now) source.bounds
+  pub plenties : ArePlenties product two (pairs_of source.items.now) source.plenties
 
 -- the pieces of a right-hand side below a node come before what was left
 pub record PutsPieces (product : ℕ → ℕ → ℕ) (right : List (Item (Pair ℕ))) (source : Source) (node : ℕ) (old new : Pending) : Type 0 where

@@ -1,7 +1,7 @@
 //! What each translation of the trees of a right-hand side costs at least, found from the last
 //! trees to the first.
 
-ghost use Rattle.std.specs.Prelude.{ℕ, IfOk, OnOk};
+ghost use Rattle.std.specs.Prelude.{ℕ, ◌<◌, length, IfOk, OnOk};
 ghost use Rattle.tib_compose.specs.Bounding.{BoundsNode, BoundsReader, KeepsSource};
 ghost use Rattle.tib_compose.specs.Pending.{IsAtLeast};
 
@@ -48,10 +48,9 @@ fn ask_rule(
     node: u32,
     seen: &mut HashMap<(u32, u32), bool>,
     asked: &mut Vec<(u32, u32)>,
-) -> Result<(), AllocError> {
-    if node as usize >= source.ends.len() {
-        return Err(AllocError);
-    }
+) -> Result<(), AllocError>
+    requires node { node < length source.now.ends.items }
+{
     for item in right {
         if let Item::Hole(pair) = item {
             let child = skip(&source.ends, node + 1, pair.variable);
@@ -124,12 +123,11 @@ impl<'a, S: Semiring> Composite<'a, S> {
         node: u32,
         position: u32,
     ) -> Result<Option<Cost>, AllocError>
+        requires below { position < length self.now.second.now.rules }
         ensures { IfOk result (BoundsReader S.product self.now.second.now.rules source.now node
             position) }
     {
-        let Some(rule) = self.second.rule_list().get(position as usize) else {
-            return Err(AllocError);
-        };
+        let rule = &self.second.rule_list()[position as usize];
         let mut pending = Pending::new(alloc);
         push_pieces::<S>(&mut pending, rule.right.items(), source, node)?;
         Ok(product_of::<S>(Some(rule.cost), pending.bound()))
@@ -177,10 +175,10 @@ impl<'a, S: Semiring> Composite<'a, S> {
         Ok(())
     }
 
-    /// Sets the bounds of all nodes and states that a search from the root by a state may come to.
-    /// A right-hand side of one label needs none: each rule that reads it gives a translation.
-    /// Cost: for each of them and each rule that reads the label there one pass over the rule's
-    /// right-hand side.
+    /// Sets the bounds of all nodes and states that a search from the root by a state may come to,
+    /// and how many translations they have at least. A right-hand side of one label needs none:
+    /// each rule that reads it gives a translation. Cost: for each of them and each rule that reads
+    /// the label there two passes over the rule's right-hand side.
     pub(crate) fn set_bounds(
         &self,
         alloc: Global,
@@ -196,6 +194,7 @@ impl<'a, S: Semiring> Composite<'a, S> {
         let mut asked = self.asked_by(alloc, source, state)?;
         while let Some((node, state)) = asked.pop() {
             self.set_bound(alloc, source, node, state)?;
+            self.set_plenty(source, node, state)?;
         }
         Ok(())
     }

@@ -8,9 +8,11 @@ ghost use Rattle.tib_compose.specs.CompositionListing.{IsWithinBudget};
 
 use crate::bounds::Bounds;
 use crate::composite::Composite;
+use crate::counting::overruns;
 use crate::ends::ends_of;
 use crate::flat::flat_root;
 use crate::listing::CompositionListing;
+use crate::plenty::Plenties;
 use crate::search::Search;
 use crate::source::Source;
 use crate::translating::go_on;
@@ -38,10 +40,12 @@ impl<'a, S: Semiring> Composite<'a, S> {
         }
         let ends = ends_of(alloc, items)?;
         let bounds = Bounds::new(alloc);
+        let plenties = Plenties::new(alloc);
         let mut source = Source {
             items,
             ends,
             bounds,
+            plenties,
         };
         self.set_bounds(alloc, &mut source, state)?;
         Ok(source)
@@ -49,7 +53,7 @@ impl<'a, S: Semiring> Composite<'a, S> {
 
     /// Lists the edges of a pair along the rule of the first transducer at a position, by a search
     /// of the translations of its right-hand side. `More` exactly where they have more parts than
-    /// the budget leaves.
+    /// the budget leaves, at once where the lower bound on them shows it.
     fn search_rule(
         &self,
         alloc: Global,
@@ -71,6 +75,9 @@ impl<'a, S: Semiring> Composite<'a, S> {
         let Ok(source) = self.source_of(alloc, rule, key.second()) else {
             return Err(ExpandError::OutOfMemory);
         };
+        if overruns::<S>(&source, rule, key.second(), listing) {
+            return Err(ExpandError::More);
+        }
         let Ok(mut search) = Search::new::<S>(alloc, rule.cost, key.second()) else {
             return Err(ExpandError::OutOfMemory);
         };

@@ -140,6 +140,7 @@ impl<'a, S: Semiring> Composite<'a, S> {
         done: &mut Vec<Item<Pair<StatePair>>>,
         listing: &mut CompositionListing<'a>,
     ) -> Result<(), ExpandError>
+        requires below { position < length self.now.second.now.rules }
         requires within { IsWithinBudget listing.old }
         ensures listed { OnOk result (ListsReader S.product self.now.second.now.rules rule.now
             items.now position listing.old listing.new) }
@@ -149,9 +150,7 @@ impl<'a, S: Semiring> Composite<'a, S> {
         ensures within { OnOk result (IsWithinBudget listing.new) }
         ensures budget { OnOk result (listing.new.budget ≡ listing.old.budget) }
     {
-        let Some(reader) = self.second.rule_list().get(position as usize) else {
-            return Err(ExpandError::OutOfMemory);
-        };
+        let reader = &self.second.rule_list()[position as usize];
         let Ok(()) = put_right(items, reader.right.items(), done) else {
             return Err(ExpandError::OutOfMemory);
         };

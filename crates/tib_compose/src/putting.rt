@@ -16,8 +16,8 @@ use tib_grammar::Item;
 use tib_transducer::Pair;
 
 /// The piece of an item of a rule's right-hand side that is put in place of a node. A variable
-/// stands for a child of the node.
-fn piece_for(item: &Item<Pair<u32>>, ends: &[u32], node: u32) -> Piece
+/// stands for a child of the node. Cost: one step for each child before it.
+pub(crate) fn piece_for(item: &Item<Pair<u32>>, ends: &[u32], node: u32) -> Piece
     requires node { node < length ends.now }
     requires few { length ends.now < 2 ^ 32 }
     ensures { (pairs : List (Symbol ℕ (PairOf ℕ) × ℕ)) → length pairs ≡ length ends.now →

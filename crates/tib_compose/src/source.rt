@@ -3,11 +3,12 @@
 ghost use Rattle.std.specs.Prelude.{◌≡◌, ◌<◌, ◌^◌, length};
 
 use crate::bounds::Bounds;
+use crate::plenty::Plenties;
 use tib_grammar::Item;
 use tib_transducer::Pair;
 
 /// The items of a right-hand side, where the trees of each end, and what their translations cost at
-/// least.
+/// least and how many there are at least.
 #[derive(Drop)]
 pub struct Source<'a> {
     /// The items.
@@ -16,6 +17,8 @@ pub struct Source<'a> {
     pub ends: Vec<u32>,
     /// The bounds.
     pub bounds: Bounds,
+    /// How many translations are known.
+    pub plenties: Plenties,
     pub ghost long: { length ends.items ≡ length items.now },
     pub ghost few: { length items.now < 2 ^ 32 },
 }

@@ -1,6 +1,6 @@
 //! All translations of a right-hand side of the first transducer, one after another.
 
-ghost use Rattle.std.specs.Prelude.{◌≡◌, IfOk, OnOk, Err};
+ghost use Rattle.std.specs.Prelude.{◌≡◌, ◌<◌, length, IfOk, OnOk, Err};
 ghost use Rattle.tib_compose.specs.CompositionListing.{IsWithinBudget};
 ghost use Rattle.tib_compose.specs.Walk.{GoesOn, GoesTooFar, IsRead, Steps, StepsTooFar};
 
@@ -61,12 +61,11 @@ impl<'a, S: Semiring> Composite<'a, S> {
         turn: &ReturnPoint,
         position: u32,
     ) -> Result<bool, AllocError>
+        requires below { position < length self.now.second.now.rules }
         ensures read { IfOk result (IsRead S.product self.now.second.now.rules source.now turn.now
             position branch.old branch.new) }
     {
-        let Some(rule) = self.second.rule_list().get(position as usize) else {
-            return Err(AllocError);
-        };
+        let rule = &self.second.rule_list()[position as usize];
         let Some(cost) = S::times(turn.cost, rule.cost) else {
             return Ok(false);
         };

@@ -1,6 +1,6 @@
-use Rattle.std.proofs.Common.{◌≡◌, ◌+◌, ◌++◌, ◌<◌, append-nil, ap, get_or, refl, sym, ◌∙◌, subst, take}
+use Rattle.std.proofs.Common.{◌≡◌, ◌+◌, ◌++◌, ◌<◌, append-nil, ap, arith, get_or, length, refl, sym, ◌∙◌, subst, take}
 use Rattle.std.proofs.lemmas.List.{get_or_read}
-use Rattle.tib_lex.specs.Lists.{total}
+use Rattle.tib_lex.specs.Lists.{Has, total}
 use Rattle.tib_tree.specs.Trees.{HasChildren, IsOneTree-preorder_of, preorder_of}
 use Rattle.tib_grammar.specs.Items.{pairs_of}
 use Rattle.tib_transducer.specs.Rules.{no_rule, transducer_rule}
@@ -11,6 +11,7 @@ use Rattle.tib_compose.specs.Readers.{readers_with}
 use Rattle.tib_compose.specs.Searches.{all_of}
 use Rattle.tib_compose.specs.Walk.{result_edges}
 use Rattle.tib_compose.proofs.FlatEdges.{are_ready, reader_more, readers_all, readers_front, reads_there, there}
+use Rattle.tib_compose.proofs.Walking.{has_there, is_reader}
 use Rattle.tib_compose.proofs.composite.Composite.list_flat.Goals as goal
 
 pub loop-reader-init : goal.loop-reader-init
@@ -19,6 +20,14 @@ loop-reader-init g c = record {
   budget = refl;
   listed = λ ready order es lists. subst (λ xs. IsListing order c.args.key xs c.args.listing.now) (sym (append-nil es)) lists;
 }
+
+pub list_reader-requires-clause-below : goal.list_reader-requires-clause-below
+list_reader-requires-clause-below g c =
+    let two = c.args.self.now.second.now.rules in
+    let ps = c.find-reader-items.result.now in
+    let i = c.loop-reader.reader-index in
+    let are : ps ≡ readers_with (c.second.result, c.args.label, c.args.rank) two = c.find-reader-items.ensures ∙ c.args.self.now.indexed (c.second.result, c.args.label, c.args.rank) in
+    (is_reader two c.second.result c.args.label c.args.rank (length two) (get_or ps i 0) (omega arith) (subst (λ xs. Has xs (get_or ps i 0)) are (has_there i ps 0 c.loop-reader-test.true))).0
 
 pub loop-reader-preserved : goal.loop-reader-preserved
 loop-reader-preserved g c =

@@ -1,4 +1,5 @@
 use Rattle.std.proofs.Common.{◌≡◌, ◌++◌, ◌<◌, ap, sym, ◌∙◌, subst}
+use Rattle.std.proofs.lemmas.List.{get_or_read}
 use Rattle.tib_lex.specs.Lists.{total}
 use Rattle.tib_cost.specs.Semiring.{cut}
 use Rattle.tib_tree.specs.Trees.{preorder_of}
@@ -7,14 +8,15 @@ use Rattle.tib_key_edges.specs.Composition.{edge_parts}
 use Rattle.tib_compose.specs.FlatSides.{KeptOverruns, ListsKept}
 use Rattle.tib_compose.specs.CompositionListing.{IsListing}
 use Rattle.tib_compose.specs.Walk.{result_edges}
-use Rattle.tib_compose.proofs.FlatEdges.{reader_kept}
+use Rattle.tib_compose.proofs.FlatEdges.{reader_kept, there}
 use Rattle.tib_compose.proofs.composite.Composite.list_reader.Goals as goal
 
 pub returns-in-Ok-list_kept-clause-listed : goal.returns-in-Ok-list_kept-clause-listed
 returns-in-Ok-list_kept-clause-listed g c = λ ready p f n flat low reads order key es lists.
     let two = c.args.self.now.second.now.rules in
     let rule = c.args.rule.now in
-    let at : c.in-Some.reader.now ≡ transducer_rule two c.args.position = c.in-Some.ensures.lookup.3.1 no_rule ∙ ap (λ rs. transducer_rule rs c.args.position) c.rule_list.ensures in
+    let r = c.index-rule_list-position.result in
+    let at : r ≡ transducer_rule two c.args.position = there two c.rule_list.result.now c.args.position r c.rule_list.ensures c.requires.below (λ low d. get_or_read c.rule_list.result.now c.args.position r low c.index-rule_list-position.is no_rule) in
     let same = reader_kept g.S.Semiring.product two ready rule c.args.items.now c.items.result.now c.put_right.new.done.items p f n c.args.position flat low reads
     (c.items.ensures.items ∙ ap (λ r. preorder_of r.right) at) c.in-Ok.ensures c.times-cost.result (c.times-cost.ensures ∙ ap (λ r. cut (g.S.Semiring.product rule.cost r.cost)) at)
     in
@@ -25,7 +27,8 @@ pub returns-in-Err-clause-more : goal.returns-in-Err-clause-more
 returns-in-Err-clause-more g c = λ e ready p f n flat low reads order key es lists.
     let two = c.args.self.now.second.now.rules in
     let rule = c.args.rule.now in
-    let at : c.in-Some.reader.now ≡ transducer_rule two c.args.position = c.in-Some.ensures.lookup.3.1 no_rule ∙ ap (λ rs. transducer_rule rs c.args.position) c.rule_list.ensures in
+    let r = c.index-rule_list-position.result in
+    let at : r ≡ transducer_rule two c.args.position = there two c.rule_list.result.now c.args.position r c.rule_list.ensures c.requires.below (λ low d. get_or_read c.rule_list.result.now c.args.position r low c.index-rule_list-position.is no_rule) in
     let same = reader_kept g.S.Semiring.product two ready rule c.args.items.now c.items.result.now c.put_right.new.done.items p f n c.args.position flat low reads
     (c.items.ensures.items ∙ ap (λ r. preorder_of r.right) at) c.in-Ok.ensures c.times-cost.result (c.times-cost.ensures ∙ ap (λ r. cut (g.S.Semiring.product rule.cost r.cost)) at)
     in

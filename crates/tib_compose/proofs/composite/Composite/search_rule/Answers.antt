@@ -1,10 +1,9 @@
-use Rattle.std.proofs.Common.{◌≡◌, ◌++◌, ◌<◌, Err, ℕ, List, length, true, false, Bool, sym, ap, ◌∙◌, subst}
+use Rattle.std.proofs.Common.{◌≡◌, ◌++◌, ◌<◌, Err, ℕ, List, Bool, sym, ap, ◌∙◌, subst}
 use Rattle.std.proofs.lemmas.List.{get_or_read}
 use Rattle.std.specs.declared.result.Result.{Result}
 use Rattle.tib_expand.specs.declared.place.ExpandError.{ExpandError}
 use Rattle.tib_lex.specs.Lists.{total}
 use Rattle.tib_tree.specs.Trees.{preorder_of}
-use Rattle.tib_grammar.specs.Items.{pairs_of}
 use Rattle.tib_transducer.specs.Rules.{no_rule, transducer_rule}
 use Rattle.tib_transducer.specs.declared.TransducerRule.{TransducerRule}
 use Rattle.tib_key_edges.specs.Composition.{edge_parts}
@@ -16,6 +15,7 @@ use Rattle.tib_compose.specs.declared.listing.CompositionListing.{CompositionLis
 use Rattle.tib_compose.specs.declared.search.Search.{Search}
 use Rattle.tib_compose.specs.declared.source.Source.{Source}
 use Rattle.tib_compose.proofs.FlatEdges.{are_ready, there}
+use Rattle.tib_compose.proofs.Plenties.{rule_overruns}
 use Rattle.tib_compose.proofs.Whole.{walk_begins}
 use Rattle.tib_compose.proofs.composite.Composite.search_rule.Goals as goal
 
@@ -43,7 +43,7 @@ loop-init g c =
       budget = c.in-Ok-go_on.ensures.budget;
       underway = λ ready order es lists.
           c.in-Ok-go_on.ensures.goes g.S.Semiring.product two ready (c.in-Ok.ensures.known ready) order c.args.key (es ++ rule_edges g.S.Semiring.product one two c.args.key c.args.position)
-          (begins_there g.S.Semiring.product one two c.args.key c.args.position c.second-2.result r c.in-Ok.source c.in-Ok-new.search c.args.listing.now ready at c.second-2.ensures c.in-Ok.ensures c.in-Ok-new.ensures.begins order es lists);
+          (begins_there g.S.Semiring.product one two c.args.key c.args.position c.second-3.result r c.in-Ok.source c.in-Ok-new.search c.args.listing.now ready at c.second-3.ensures c.in-Ok.ensures c.in-Ok-new.ensures.begins order es lists);
     }
 
 pub loop-preserved : goal.loop-preserved
@@ -60,6 +60,16 @@ loop-preserved g c =
           (c.in-Ok-true.ensures.steps ready (c.in-Ok.ensures.known ready) order c.args.key all (c.loop.invariant.underway ready order es lists));
     }
 
+pub returns-then-overruns-clause-more : goal.returns-then-overruns-clause-more
+returns-then-overruns-clause-more g c = λ e.
+    let one = c.args.self.now.first.now.rules in
+    let two = c.args.self.now.second.now.rules in
+    let r = c.index-rule_list-position.result in
+    let at : r ≡ transducer_rule one c.args.position = there one c.rule_list.result.now c.args.position r c.rule_list.ensures c.requires.below (λ low d. get_or_read c.rule_list.result.now c.args.position r low c.index-rule_list-position.is no_rule) in
+    let ready = are_ready g.met.S.Semiring.laws two c.is_sound.ensures.shaped c.is_sound.ensures.leaves in
+    rule_overruns g.S.Semiring.product one two c.args.key c.args.position c.second-2.result r c.in-Ok.source c.args.listing.now ready at c.second-2.ensures c.in-Ok.ensures.items (c.in-Ok.ensures.known ready)
+    (c.overruns.ensures c.if-overruns.true)
+
 pub returns-in-Err-clause-more : goal.returns-in-Err-clause-more
 returns-in-Err-clause-more g c = λ e order es lists.
     let one = c.args.self.now.first.now.rules in
@@ -68,7 +78,7 @@ returns-in-Err-clause-more g c = λ e order es lists.
     let at : r ≡ transducer_rule one c.args.position = there one c.rule_list.result.now c.args.position r c.rule_list.ensures c.requires.below (λ low d. get_or_read c.rule_list.result.now c.args.position r low c.index-rule_list-position.is no_rule) in
     let ready = are_ready g.met.S.Semiring.laws two c.is_sound.ensures.shaped c.is_sound.ensures.leaves in
     c.go_on.ensures.more (c.in-Err.is ∙ e) g.S.Semiring.product two ready (c.in-Ok.ensures.known ready) order c.args.key (es ++ rule_edges g.S.Semiring.product one two c.args.key c.args.position)
-    (begins_there g.S.Semiring.product one two c.args.key c.args.position c.second-2.result r c.in-Ok.source c.in-Ok-new.search c.args.listing.now ready at c.second-2.ensures c.in-Ok.ensures c.in-Ok-new.ensures.begins order es lists)
+    (begins_there g.S.Semiring.product one two c.args.key c.args.position c.second-3.result r c.in-Ok.source c.in-Ok-new.search c.args.listing.now ready at c.second-3.ensures c.in-Ok.ensures c.in-Ok-new.ensures.begins order es lists)
 
 pub returns-in-Ok-false-clause-listed : goal.returns-in-Ok-false-clause-listed
 returns-in-Ok-false-clause-listed g c = λ order es lists.

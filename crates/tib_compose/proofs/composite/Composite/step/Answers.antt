@@ -1,6 +1,7 @@
-use Rattle.std.proofs.Common.{◌≡◌, ◌++◌, ◌∷◌, [], ◌<◌, ◌≤◌, length, get_or, List, ℕ, refl, sym, ap, ◌∙◌, subst, true, false, Bool, Err}
+use Rattle.std.proofs.Common.{◌≡◌, ◌++◌, ◌∷◌, [], ◌<◌, length, get_or, List, ℕ, arith, refl, sym, ap, ◌∙◌, subst, Bool, Err}
 use Rattle.std.specs.Global.{Vec}
 use Rattle.std.specs.declared.result.Result.{Result}
+use Rattle.tib_lex.specs.Lists.{Has}
 use Rattle.tib_expand.specs.declared.place.ExpandError.{ExpandError}
 use Rattle.tib_compose.specs.Readers.{readers_with}
 use Rattle.tib_compose.specs.Walk.{IsRead}
@@ -8,6 +9,7 @@ use Rattle.tib_compose.specs.Searches.{tried_more}
 use Rattle.tib_compose.specs.declared.search.ReturnPoint.{ReturnPoint}
 use Rattle.tib_compose.proofs.Left.{beyond}
 use Rattle.tib_compose.proofs.Steps.{turn_ends, turn_alive, turn_dead}
+use Rattle.tib_compose.proofs.Walking.{has_there, is_reader}
 use Rattle.tib_compose.proofs.composite.Composite.step.Goals as goal
 
 same_fault : (f : ExpandError) → ◌≡◌ {A = Result Bool ExpandError} (Err f) (Err ExpandError.More) → ◌≡◌ {A = Result (Unit {0}) ExpandError} (Err f) (Err ExpandError.More)
@@ -20,6 +22,19 @@ returns-in_default-get-clause-steps g c = λ ready known order key all h.
     turn_ends c.args.source.now c.args.left.now g.S.Semiring.product two ready known order key all c.args.search.now c.args.listing.now h c.pop.new.self.items t c.in-Some.ensures.items
     (record { branch = c.args.search.now.branch; turns = c.pop.new.self }) refl refl
     (beyond c.find-readers.result.now (readers_with (t.reading.state, t.reading.label, t.reading.rank) two) t.tried (c.find-readers.ensures ∙ c.args.self.now.indexed (t.reading.state, t.reading.label, t.reading.rank)) c.in_default-get.ensures.lookup.0)
+
+pub read-requires : goal.read-requires
+read-requires g c =
+    let two = c.args.self.now.second.now.rules in
+    let t = c.in-Some.turn in
+    let rs : List ℕ = readers_with (t.reading.state, t.reading.label, t.reading.rank) two in
+    let are : c.find-readers.result.now ≡ rs = c.find-readers.ensures ∙ c.args.self.now.indexed (t.reading.state, t.reading.label, t.reading.rank) in
+    let look = c.in-Some-get.ensures.lookup in
+    let low : t.tried < length rs = subst (λ (xs : List ℕ). t.tried < length xs) are look.3.0 in
+    let is : get_or rs t.tried 0 ≡ c.in-Some-get.position.now = ap (λ (xs : List ℕ). get_or xs t.tried 0) (sym are) ∙ sym (look.3.1 0) in
+    record {
+      below = (is_reader two t.reading.state t.reading.label t.reading.rank (length two) c.in-Some-get.position.now (omega arith) (subst (Has rs) is (has_there t.tried rs 0 low))).0;
+    }
 
 pub returns-then-not-alive-clause-steps : goal.returns-then-not-alive-clause-steps
 returns-then-not-alive-clause-steps g c = λ ready known order key all h.
