@@ -74,7 +74,7 @@ pub struct CompositionListing<'a> {
 }
 
 impl<'a> CompositionListing<'a> {
-    /// The empty list of edges of the pair at a position.
+    /// The empty list of edges of the pair at a position. It takes no memory and one step.
     pub fn new(alloc: Global, position: u32, budget: u64) -> CompositionListing<'a>
         ensures position { result.position ≡ position }
         ensures budget { result.budget ≡ budget }
@@ -146,7 +146,7 @@ impl<'a> CompositionListing<'a> {
         Ok(())
     }
 
-    /// The ends, the rules and their parts.
+    /// The ends, the rules and their parts. It takes no memory and one step.
     pub fn into_edges(self) -> Edges<StatePair, PlacedRule<'a>>
         ensures ends { result.ends.items ≡ self.entry.ends.items }
         ensures rules { result.rules.items ≡ self.entry.rules.items }

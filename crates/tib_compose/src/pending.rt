@@ -59,7 +59,7 @@ pub struct Pending {
 }
 
 impl Pending {
-    /// Nothing is left.
+    /// Nothing is left. It takes no memory and one step.
     pub fn new(alloc: Global) -> Pending
         ensures tasks { result.tasks.items ≡ [] }
         ensures next { result.next ≡ 0 }
@@ -70,7 +70,7 @@ impl Pending {
         }
     }
 
-    /// Takes the next piece, none if nothing is left.
+    /// Takes the next piece, none if nothing is left. It takes no memory and one step.
     pub fn pop(&mut self) -> Option<Piece>
         ensures { TakesNext self.old self.new result }
     {
@@ -87,7 +87,8 @@ impl Pending {
         Some(piece)
     }
 
-    /// What all that is left costs at least, none if it is more than the greatest cost.
+    /// What all that is left costs at least, none if it is more than the greatest cost. It takes no
+    /// memory and one step.
     pub fn bound(&self) -> Option<Cost>
         ensures { (product : ℕ → ℕ → ℕ) → (two : List (RuleOf ℕ)) →
             (pairs : List (Symbol ℕ (PairOf ℕ) × ℕ)) → (ws : List PieceOf) →
@@ -103,7 +104,7 @@ impl Pending {
     }
 
     /// Puts a piece, which costs at least its bound, before what is left. Err only if memory is
-    /// refused; then nothing is put there.
+    /// refused; then nothing is put there. Cost: one step, and now and then a copy of all tasks.
     pub fn push<S: Semiring>(&mut self, piece: Piece, bound: Option<Cost>) -> Result<(), AllocError>
         ensures { OnOk result (IsPushed S.product piece bound self.old self.new) }
     {
@@ -119,7 +120,7 @@ impl Pending {
     }
 
     /// Comes back to what was left when this many tasks were there, and this was the number of the
-    /// next.
+    /// next. It takes no memory, and one step for each task that is dropped.
     pub fn back_to(&mut self, tasks: usize, next: usize)
         ensures tasks { self.new.tasks.items ≡ take tasks self.old.tasks.items }
         ensures next { self.new.next ≡ next }

@@ -72,7 +72,7 @@ pub struct Plenties {
 }
 
 impl Plenties {
-    /// Nothing is known of any node.
+    /// Nothing is known of any node. It takes no memory and one step.
     pub fn new(alloc: Global) -> Plenties
         ensures { (i p : ℕ) → plenty_of result i p ≡ None }
     {

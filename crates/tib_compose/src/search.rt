@@ -38,7 +38,7 @@ pub struct Search {
 
 impl Search {
     /// The search for the translations of a whole right-hand side by a state, at a cost. Err only
-    /// if memory is refused.
+    /// if memory is refused. Cost: one step.
     pub fn new<S: Semiring>(alloc: Global, cost: Cost, state: u32) -> Result<Search, AllocError>
         ensures begins { IfOk result (Begins S.product cost state) }
     {
@@ -55,7 +55,7 @@ impl Search {
     }
 
     /// Turns at a label that the branch came to. Err only if memory is refused; then no turn is
-    /// kept.
+    /// kept. Cost: one step, and now and then a copy of all turns.
     pub fn meet(&mut self, reading: Reading) -> Result<(), AllocError>
         ensures meets { OnOk result (Meets reading self.old self.new) }
     {
@@ -71,7 +71,8 @@ impl Search {
         Ok(())
     }
 
-    /// Comes back to the branch at a turn; its cost stays.
+    /// Comes back to the branch at a turn; its cost stays. It takes no memory, and one step for
+    /// each item and each task that is dropped.
     pub fn back_to(&mut self, turn: &ReturnPoint)
         ensures { ComesBack turn.now self.old self.new }
     {
@@ -80,7 +81,7 @@ impl Search {
     }
 
     /// Keeps a turn at which one more rule was tried. Err if memory is refused, or `tried` is the
-    /// greatest number; then the turn is lost.
+    /// greatest number; then the turn is lost. Cost: that of `meet`.
     pub fn again(&mut self, turn: ReturnPoint) -> Result<(), AllocError>
         ensures again { OnOk result (IsAgain turn self.old self.new) }
     {
