@@ -1,6 +1,6 @@
 //! What an operation gives the hunt: which keys and edges it hunts, and how it lists them.
 
-ghost use Rattle.std.specs.Prelude.{◌≤◌, ◌<◌, ℕ, length, IfOk, IfErr};
+ghost use Rattle.std.specs.Prelude.{◌≤◌, ◌<◌, ◌^◌, ℕ, List, [], length, take, IfOk, IfErr, OnOk};
 ghost use Rattle.tib_lex.specs.Lists.{Each};
 ghost use Rattle.tib_expand.specs.EdgeLists.{IsWithin};
 ghost use Rattle.tib_expand.specs.Expanded.{
@@ -32,6 +32,9 @@ pub trait Expand {
     /// The same rule over positions of the order.
     type Rule: Drop;
 
+    /// What is kept of an order so that its positions are expanded faster. It grows with the order.
+    type Index: Drop;
+
     /// Where an edge comes from. No value of it is made.
     type Origin;
 
@@ -45,6 +48,9 @@ pub trait Expand {
     // The keys that an order may have.
     ghost admits: { Self → Self.Key → Type 0 };
 
+    // What an index of an order is.
+    ghost indexes: { Self → List Self.Key → Self.Index → Type 0 };
+
     // Which edges the rules stand for.
     ghost reading: { Reading Self.Key Self.Edge Self.Over Self.Rule };
 
@@ -57,17 +63,39 @@ pub trait Expand {
         ensures within { IfOk result (λ r. r.parts ≤ budget) }
         ensures more { IfErr result (IfMore (SeedEdgesExceed (hunted self.now) budget)) };
 
-    /// The edges of the position `n` of the order, and their ends. `More` comes exactly where these
-    /// edges have more parts than the budget, `OutOfMemory` only if memory is refused.
+    /// An index of the empty order. Err only if memory is refused.
+    fn begin_index(&self, alloc: Global) -> Result<Self::Index, AllocError>
+        ensures { IfOk result (indexes self.now []) };
+
+    /// Takes the keys of the order from the position `from` on into an index of those before it.
+    /// Err only if memory is refused; nothing is then promised of the index.
+    fn extend_index(
+        &self,
+        alloc: Global,
+        index: &mut Self::Index,
+        order: &[Self::Key],
+        from: u32,
+    ) -> Result<(), AllocError>
+        requires from { from ≤ length order.now }
+        requires few { length order.now < 2 ^ 32 }
+        requires admitted { Each (admits self.now) order.now }
+        requires index { indexes self.now (take from order.now) index.old }
+        ensures { OnOk result (indexes self.now order.now index.new) };
+
+    /// The edges of the position `n` of the order, and their ends. The index is one of the whole
+    /// order, which may have later keys than that at `n`. `More` comes exactly where these edges
+    /// have more parts than the budget, `OutOfMemory` only if memory is refused.
     fn expand(
         &self,
         alloc: Global,
         order: &[Self::Key],
+        index: &Self::Index,
         n: u32,
         budget: u64,
     ) -> Result<Edges<Self::Key, Self::Over>, ExpandError>
         requires position { n < length order.now }
         requires admitted { Each (admits self.now) order.now }
+        requires indexed { indexes self.now order.now index.now }
         requires budget { budget ≤ most_parts }
         ensures listed { IfOk result (ListsEdges (hunted self.now) reading order.now n) }
         ensures ends { IfOk result (HasEnds (IsEndAt (hunted self.now) order.now n)) }
