@@ -22,6 +22,8 @@ impl<'a, S: Semiring> Expand for Backward<'a, S> {
 
     type Rule = Rule<u32>;
 
+    type Index = ();
+
     type Origin = (u32, LinkedList<u32>);
 
     type Edge = Rule<Key>;
@@ -29,6 +31,8 @@ impl<'a, S: Semiring> Expand for Backward<'a, S> {
     ghost hunted = { λ p. inverse_image S.product p.transducer.now.rules p.grammar.now.rules };
 
     ghost admits = { λ p k. k.1 < length p.grammar.now.names };
+
+    ghost indexes = { λ _ _ _. Unit {0} };
 
     ghost reading = { key_reading };
 
@@ -44,10 +48,25 @@ impl<'a, S: Semiring> Expand for Backward<'a, S> {
         })
     }
 
+    fn begin_index(&self, _alloc: Global) -> Result<(), AllocError> {
+        Ok(())
+    }
+
+    fn extend_index(
+        &self,
+        _alloc: Global,
+        _index: &mut (),
+        _order: &[Key],
+        _from: u32,
+    ) -> Result<(), AllocError> {
+        Ok(())
+    }
+
     fn expand(
         &self,
         alloc: Global,
         order: &[Key],
+        _index: &(),
         n: u32,
         budget: u64,
     ) -> Result<Edges<Key, Rule<u32>>, ExpandError> {

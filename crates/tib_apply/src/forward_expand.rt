@@ -22,6 +22,8 @@ impl<'a, S: Semiring> Expand for Forward<'a, S> {
 
     type Rule = Rule<u32>;
 
+    type Index = ();
+
     type Origin = (u32, LinkedList<u32>);
 
     type Edge = Rule<Key>;
@@ -29,6 +31,8 @@ impl<'a, S: Semiring> Expand for Forward<'a, S> {
     ghost hunted = { λ f. table_image S.product f.grammar.now.rules f.transducer.now.rules f.runs };
 
     ghost admits = { λ f k. k.0 < length f.grammar.now.names };
+
+    ghost indexes = { λ _ _ _. Unit {0} };
 
     ghost reading = { forward_reading };
 
@@ -48,10 +52,25 @@ impl<'a, S: Semiring> Expand for Forward<'a, S> {
         })
     }
 
+    fn begin_index(&self, _alloc: Global) -> Result<(), AllocError> {
+        Ok(())
+    }
+
+    fn extend_index(
+        &self,
+        _alloc: Global,
+        _index: &mut (),
+        _order: &[Key],
+        _from: u32,
+    ) -> Result<(), AllocError> {
+        Ok(())
+    }
+
     fn expand(
         &self,
         alloc: Global,
         order: &[Key],
+        _index: &(),
         n: u32,
         budget: u64,
     ) -> Result<Edges<Key, ForwardRule<'a>>, ExpandError> {

@@ -22,6 +22,8 @@ impl<'a, S: Semiring> Expand for Composite<'a, S> {
 
     type Rule = TransducerRule<u32>;
 
+    type Index = ();
+
     type Origin = (u32, Choice);
 
     type Edge = TransducerRule<StatePair>;
@@ -29,6 +31,8 @@ impl<'a, S: Semiring> Expand for Composite<'a, S> {
     ghost hunted = { λ c. composition S.product c.first.now.rules c.second.now.rules };
 
     ghost admits = { λ c k. (k.0 < length c.first.now.names) × (k.1 < length c.second.now.names) };
+
+    ghost indexes = { λ _ _ _. Unit {0} };
 
     ghost reading = { compose_reading };
 
@@ -48,10 +52,25 @@ impl<'a, S: Semiring> Expand for Composite<'a, S> {
         })
     }
 
+    fn begin_index(&self, _alloc: Global) -> Result<(), AllocError> {
+        Ok(())
+    }
+
+    fn extend_index(
+        &self,
+        _alloc: Global,
+        _index: &mut (),
+        _order: &[StatePair],
+        _from: u32,
+    ) -> Result<(), AllocError> {
+        Ok(())
+    }
+
     fn expand(
         &self,
         alloc: Global,
         order: &[StatePair],
+        _index: &(),
         n: u32,
         budget: u64,
     ) -> Result<Edges<StatePair, PlacedRule<'a>>, ExpandError> {

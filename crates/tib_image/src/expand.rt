@@ -21,6 +21,8 @@ impl<'a, S: Semiring> Expand for Image<'a, S> {
 
     type Rule = Rule<u32>;
 
+    type Index = ();
+
     type Origin = u32;
 
     type Edge = Rule<Key>;
@@ -28,6 +30,8 @@ impl<'a, S: Semiring> Expand for Image<'a, S> {
     ghost hunted = { λ i. image_of i.transducer.now.rules i.tree.now };
 
     ghost admits = { λ i k. k.1 < size i.tree.now };
+
+    ghost indexes = { λ _ _ _. Unit {0} };
 
     ghost reading = { image_reading };
 
@@ -47,10 +51,25 @@ impl<'a, S: Semiring> Expand for Image<'a, S> {
         })
     }
 
+    fn begin_index(&self, _alloc: Global) -> Result<(), AllocError> {
+        Ok(())
+    }
+
+    fn extend_index(
+        &self,
+        _alloc: Global,
+        _index: &mut (),
+        _order: &[Key],
+        _from: u32,
+    ) -> Result<(), AllocError> {
+        Ok(())
+    }
+
     fn expand(
         &self,
         alloc: Global,
         order: &[Key],
+        _index: &(),
         n: u32,
         budget: u64,
     ) -> Result<Edges<Key, SideRule<'a, Pair<u32>>>, ExpandError> {

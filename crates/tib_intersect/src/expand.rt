@@ -44,6 +44,8 @@ impl<'a, S: Semiring> Expand for Pairs<'a, S> {
 
     type Rule = Rule<u32>;
 
+    type Index = ();
+
     type Origin = (u32, u32);
 
     type Edge = Rule<StatePair>;
@@ -51,6 +53,8 @@ impl<'a, S: Semiring> Expand for Pairs<'a, S> {
     ghost hunted = { λ p. intersection S.product p.left.now.rules p.right.now.rules };
 
     ghost admits = { λ p k. (k.0 < length p.left.now.names) × (k.1 < length p.right.now.names) };
+
+    ghost indexes = { λ _ _ _. Unit {0} };
 
     ghost reading = { pair_reading };
 
@@ -66,10 +70,25 @@ impl<'a, S: Semiring> Expand for Pairs<'a, S> {
         })
     }
 
+    fn begin_index(&self, _alloc: Global) -> Result<(), AllocError> {
+        Ok(())
+    }
+
+    fn extend_index(
+        &self,
+        _alloc: Global,
+        _index: &mut (),
+        _order: &[StatePair],
+        _from: u32,
+    ) -> Result<(), AllocError> {
+        Ok(())
+    }
+
     fn expand(
         &self,
         alloc: Global,
         order: &[StatePair],
+        _index: &(),
         n: u32,
         budget: u64,
     ) -> Result<Edges<StatePair, PairRule>, ExpandError> {

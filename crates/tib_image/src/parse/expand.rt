@@ -22,6 +22,8 @@ impl<'a, S: Semiring> Expand for Parse<'a, S> {
 
     type Rule = Rule<u32>;
 
+    type Index = ();
+
     type Origin = (u32, LinkedList<u32>);
 
     type Edge = Rule<Key>;
@@ -30,6 +32,8 @@ impl<'a, S: Semiring> Expand for Parse<'a, S> {
 
     ghost admits = { λ p k. IsKey (length p.transducer.now.names) (length p.string.now)
         (length (restricted_labels p.transducer.now.rules)) k };
+
+    ghost indexes = { λ _ _ _. Unit {0} };
 
     ghost reading = { parse_reading };
 
@@ -46,10 +50,25 @@ impl<'a, S: Semiring> Expand for Parse<'a, S> {
         })
     }
 
+    fn begin_index(&self, _alloc: Global) -> Result<(), AllocError> {
+        Ok(())
+    }
+
+    fn extend_index(
+        &self,
+        _alloc: Global,
+        _index: &mut (),
+        _order: &[Key],
+        _from: u32,
+    ) -> Result<(), AllocError> {
+        Ok(())
+    }
+
     fn expand(
         &self,
         alloc: Global,
         order: &[Key],
+        _index: &(),
         n: u32,
         budget: u64,
     ) -> Result<Edges<Key, ParseRule<'a>>, ExpandError> {
