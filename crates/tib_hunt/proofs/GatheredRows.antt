@@ -69,15 +69,15 @@ module _ {K O E : Type 0} (p : Exploration K O E) (laws : Laws p) where
       let m = more e.0 (edges_back order f.0 (length order) e.0 (omega arith) (subst (λ (l : List K). AreEdges p l (length order) e.0) f.1 e.1)) in
       omega arith
 
-module _ {P K O E R T : Type 0} (of : P → Exploration K O E) (reading : Reading K E R T) (x : P) (order : List K) (first : ℕ) where
+module _ {P K I O E R T : Type 0} (of : P → Exploration K O E) (reading : Reading K E R T) (x : P) (order : List K) (first : ℕ) (index : I) where
   abbrev p : Exploration K O E
   p = of x
 
-  abbrev gives : P × List K × ℕ → ℕ → List K → Ruled R → ℕ → Type 0
+  abbrev gives : P × List K × ℕ × I → ℕ → List K → Ruled R → ℕ → Type 0
   gives = GivesEdges of reading
 
-  abbrev about : P × List K × ℕ
-  about = (x, order, first)
+  abbrev about : P × List K × ℕ × I
+  about = (x, order, first, index)
 
   abbrev AreRows : List (List K) → ℕ → List (Row (Ruled R)) → Type 0
   AreRows = AreRowsFrom gives items_in about

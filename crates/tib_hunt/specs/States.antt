@@ -19,27 +19,27 @@ use Rattle.tib_hunt.specs.declared.row.Row.{Row}
 use Rattle.tib_hunt.specs.declared.shelved_round.Work.{Work}
 use Rattle.tib_hunt.specs.declared.shelved_round.Worked.{Worked}
 
-module _ {X K R T O E : Type 0} where
+module _ {X K R T I O E : Type 0} where
   -- the edges are the last row, in which each of their ends has its number
-  abbrev pub AddsEdges : Edges K R → HuntState X K R T O E → HuntState X K R T O E → Type 0
+  abbrev pub AddsEdges : Edges K R → HuntState X K R T I O E → HuntState X K R T I O E → Type 0
   AddsEdges edges old new =
       (row : Row R) × (new.rows.items ≡ old.rows.items ++ row ∷ []) × (row.rules.items ≡ edges.rules.items) × Name new.keys.keys edges.ends.items row.ends.items
 
   -- the fresh keys follow those of the order, ascending, and the rules of the rows have the
   -- positions of their ends
-  abbrev pub AreSettled : (K → K → Ordering) → Reading K E R T → ℕ → List K → List K → List (NumberedRow R) → HuntState X K R T O E → HuntState X K R T O E → Type 0
+  abbrev pub AreSettled : (K → K → Ordering) → Reading K E R T → ℕ → List K → List K → List (NumberedRow R) → HuntState X K R T I O E → HuntState X K R T I O E → Type 0
   AreSettled cmp reading first order fresh rows old new =
       (moved : List ℕ) × IsInOrder cmp order fresh new.keys.keys moved
       × ReadAs reading first moved old.rules.items rows new.rules.items
       × StayBelow reading first moved old.rules.items new.rules.items
 
-module _ {X K O E R T : Type 0} (p : Exploration K O E) (admits : K → Type 0) (reading : Reading K E R T) where
+module _ {X K O E R T I : Type 0} (p : Exploration K O E) (admits : K → Type 0) (reading : Reading K E R T) where
   -- between two rounds, where the positions below the first one are expanded
-  abbrev pub IsBetweenRounds : ℕ → ℕ → HuntState X K R T O E → Type 0
+  abbrev pub IsBetweenRounds : ℕ → ℕ → HuntState X K R T I O E → Type 0
   IsBetweenRounds first limit state = IsBetween p admits reading first state.keys.keys state.rules.items state.parts limit
 
   -- each position of the order is expanded, and these are the keys and the rows
-  abbrev pub IsExpanded : List K → ℕ → ℕ → List K → List (NumberedRow R) → HuntState X K R T O E → Type 0
+  abbrev pub IsExpanded : List K → ℕ → ℕ → List K → List (NumberedRow R) → HuntState X K R T I O E → Type 0
   IsExpanded order first limit keys rows state = IsWithinRound p admits reading order first (length order) keys state.rules.items rows state.parts limit
 
 module _ {K R : Type 0} where

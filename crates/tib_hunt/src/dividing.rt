@@ -48,6 +48,7 @@ where
     E::Key: Send + Sync,
     E::Over: Send,
     E::Rule: Send,
+    E::Index: Send,
     requires { MayBePlaced E.reading (map (λ v. v.items) positions.now) first moved.now rows.items }
     ensures { IfOk result (λ r. AddsRules E.reading (map (λ v. v.items) positions.now) first
         moved.now rules.items rows.items r.items) }
@@ -61,9 +62,9 @@ where
     let mut front = rows;
     let back = front.split_off(front.len() / 2)?;
     let of_front = move || -> Result<Vec<E::Rule>, AllocError>
-        requires { IsSend E.Key.row × IsSend E.Over.row × IsSend E.Rule.row × IsSync R.row
-            × IsSync E.row × IsSync E.Key.row × (0 < times)
-            × MayBePlaced E.reading (map (λ v. v.items) positions.now) first moved.now front.items }
+        requires { IsSend E.Key.row × IsSend E.Over.row × IsSend E.Rule.row × IsSend E.Index.row ×
+            IsSync R.row × IsSync E.row × IsSync E.Key.row × (0 < times) × MayBePlaced E.reading
+            (map (λ v. v.items) positions.now) first moved.now front.items }
         ensures { IfOk result (λ r. AddsRules E.reading (map (λ v. v.items) positions.entry.now)
             first moved.entry.now rules.items front.items r.items) }
     {
@@ -80,9 +81,9 @@ where
         )
     };
     let of_back = move || -> Result<Vec<E::Rule>, AllocError>
-        requires { IsSend E.Key.row × IsSend E.Over.row × IsSend E.Rule.row × IsSync R.row
-            × IsSync E.row × IsSync E.Key.row × (0 < times)
-            × MayBePlaced E.reading (map (λ v. v.items) positions.now) first moved.now back.items }
+        requires { IsSend E.Key.row × IsSend E.Over.row × IsSend E.Rule.row × IsSend E.Index.row ×
+            IsSync R.row × IsSync E.row × IsSync E.Key.row × (0 < times) × MayBePlaced E.reading
+            (map (λ v. v.items) positions.now) first moved.now back.items }
         ensures { IfOk result (λ r. AddsRules E.reading (map (λ v. v.items) positions.entry.now)
             first moved.entry.now [] back.items r.items) }
     {
@@ -125,6 +126,7 @@ where
     E::Key: Send + Sync,
     E::Over: Send,
     E::Rule: Send,
+    E::Index: Send,
     requires on { Each (λ row. AreOn (map (λ v. v.items) positions.now) row.rules.at row.ends.items)
         rows.items }
     requires below { Each (IsRowBelow E.reading.places first (first + length moved.now))

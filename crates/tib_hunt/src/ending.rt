@@ -12,9 +12,10 @@ use crate::dividing::place_together;
 use crate::placing::place_rows;
 use crate::shelved_round::Worked;
 use crate::state::{HuntState, TakenIn};
+use crate::terms::Terms;
 use std::alloc::{AllocError, Global};
 use std::thread::Threads;
-use tib_expand::{Expand, HuntError};
+use tib_expand::{Expand, Gate, HuntError};
 use tib_table::{Lookup, put_fresh, put_fresh_together};
 
 impl<E: Expand> HuntState<E> {
@@ -70,6 +71,7 @@ impl<E: Expand> HuntState<E> {
         E::Key: Send + Sync,
         E::Over: Send,
         E::Rule: Send,
+        E::Index: Send,
         requires placed { taken.fresh.items ≡ placed 0 (keys_of taken.fresh.items) }
         requires few { length (self.old.keys.keys ++ keys_of taken.fresh.items) < 2 ^ 32 }
         requires distinct { Distinct (self.old.keys.keys ++ keys_of taken.fresh.items) }
@@ -139,12 +141,11 @@ impl<E: Expand> HuntState<E> {
     /// Ends a round of this number of workers, 1 or more. It takes in what they made without a
     /// look-up, since the order has none of the keys of their shelves. At most as many threads sort
     /// the new ends and settle the rows. Errors are those of `end_round`.
-    pub fn end_round_together<R: Threads + Sync>(
+    pub fn end_round_together<R: Threads + Sync, G: Gate>(
         &mut self,
         rt: &R,
         alloc: Global,
-        problem: &E,
-        limit: u64,
+        terms: &Terms<'_, E, G>,
         first: u32,
         workers: u32,
         worked: Worked<E::Key, E::Over>,
@@ -154,20 +155,23 @@ impl<E: Expand> HuntState<E> {
         E::Key: Send + Sync,
         E::Over: Send,
         E::Rule: Send,
+        E::Index: Send,
         requires workers { 1 ≤ workers }
-        requires limit { limit ≤ most_parts }
-        requires between { IsBetweenRounds (E.hunted problem.now) (E.admits problem.now) E.reading
-            first limit self.old }
-        requires worked { WorksRound (E.hunted problem.now) E.reading E.Key.shelf_of
-            self.old.keys.keys first self.old.parts limit worked }
+        requires limit { terms.now.limit ≤ most_parts }
+        requires between { IsBetweenRounds (E.hunted terms.now.problem.now) (E.admits
+            terms.now.problem.now) E.reading first terms.now.limit self.old }
+        requires worked { WorksRound (E.hunted terms.now.problem.now) E.reading E.Key.shelf_of
+            self.old.keys.keys first self.old.parts terms.now.limit worked }
         requires apart { LacksAll self.old.keys.keys worked }
-        ensures between { OnOk result (IsBetweenRounds (E.hunted problem.now) (E.admits problem.now)
-            E.reading (length self.old.keys.keys) limit self.new) }
-        ensures run { OnOk result (AppendsOutcome (E.hunted problem.now) E.Key.eq E.Key.shelf_of
-            self.old.keys.keys first self.new.keys.keys) }
+        ensures between { OnOk result (IsBetweenRounds (E.hunted terms.now.problem.now) (E.admits
+            terms.now.problem.now) E.reading (length self.old.keys.keys) terms.now.limit self.new) }
+        ensures run { OnOk result (AppendsOutcome (E.hunted terms.now.problem.now) E.Key.eq
+            E.Key.shelf_of self.old.keys.keys first self.new.keys.keys) }
         ensures rows { OnOk result (self.new.rows.items ≡ []) }
-        ensures more { IfErr result (IfTooMany limit (IsBeyond (E.hunted problem.now) limit)) }
+        ensures more { IfErr result (IfTooMany terms.now.limit (IsBeyond (E.hunted
+            terms.now.problem.now) terms.now.limit)) }
     {
+        let Terms { problem, limit, .. } = *terms;
         let taken = match self.take_round(alloc, problem, limit, first, Lookup::Needless, worked) {
             Ok(taken) => taken,
             Err(error) => return Err(error),

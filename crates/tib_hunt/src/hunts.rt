@@ -7,6 +7,7 @@ ghost use Rattle.tib_hunt.specs.States.{IsBetweenRounds};
 
 use crate::one_round::{round_alone, round_together};
 use crate::state::{HuntState, list_keys};
+use crate::terms::Terms;
 use std::alloc::{AllocError, Global};
 use std::sync::Wait;
 use std::thread::Threads;
@@ -66,10 +67,23 @@ pub(crate) fn hunt_by<E: Expand, G: Gate>(
         Ok(state) => state,
         Err(error) => return Err(error),
     };
+    let Ok(mut index) = problem.begin_index(alloc) else {
+        return Err(HuntError::OutOfMemory);
+    };
     let mut first = 0;
     while (first as usize) < state.keys.len() {
         let next = state.keys.len() as u32;
-        match round_alone(&mut state, alloc, problem, limit, many, gate, first) {
+        let order = state.keys.as_slice();
+        let Ok(()) = problem.extend_index(alloc, &mut index, order, first) else {
+            return Err(HuntError::OutOfMemory);
+        };
+        let terms = Terms {
+            problem,
+            index: &index,
+            limit,
+            gate,
+        };
+        match round_alone(&mut state, alloc, &terms, many, first) {
             Ok(()) => {}
             Err(error) => return Err(error),
         }
@@ -94,6 +108,7 @@ where
     E::Key: Send + Sync,
     E::Over: Send,
     E::Rule: Send,
+    E::Index: Send + Sync,
     requires workers { (1 ≤ workers) × (workers ≤ 16) }
     requires some { 1 ≤ limit }
     requires limit { limit ≤ most_parts }
@@ -107,10 +122,23 @@ where
         Ok(state) => state,
         Err(error) => return Err(error),
     };
+    let Ok(mut index) = problem.begin_index(alloc) else {
+        return Err(HuntError::OutOfMemory);
+    };
     let mut first = 0;
     while (first as usize) < state.keys.len() {
         let after = state.keys.len() as u32;
-        match round_together(rt, &mut state, alloc, problem, limit, workers, gate, first) {
+        let keys = state.keys.as_slice();
+        let Ok(()) = problem.extend_index(alloc, &mut index, keys, first) else {
+            return Err(HuntError::OutOfMemory);
+        };
+        let terms = Terms {
+            problem,
+            index: &index,
+            limit,
+            gate,
+        };
+        match round_together(rt, &mut state, alloc, &terms, workers, first) {
             Ok(()) => {}
             Err(error) => return Err(error),
         }
@@ -166,6 +194,7 @@ where
     E::Key: Send + Sync,
     E::Over: Send,
     E::Rule: Send,
+    E::Index: Send + Sync,
     requires workers { (1 ≤ workers) × (workers ≤ 16) }
     requires some { 1 ≤ limit }
     requires limit { limit ≤ most_parts }

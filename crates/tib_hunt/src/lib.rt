@@ -22,6 +22,7 @@ mod row;
 mod shelved_round;
 mod shelving;
 mod state;
+mod terms;
 mod worker_round;
 
 pub use event::{Answer, Event};

@@ -6,6 +6,7 @@ ghost use Rattle.tib_hunt.specs.Rows.{numbered};
 ghost use Rattle.tib_hunt.specs.States.{IsBetweenRounds, IsExpanded, AppendsOutcome};
 
 use crate::state::HuntState;
+use crate::terms::Terms;
 use std::alloc::Global;
 use tib_expand::{Expand, ExpandError, Gate, HuntError, TableKey};
 
@@ -14,25 +15,31 @@ use tib_expand::{Expand, ExpandError, Gate, HuntError, TableKey};
 fn expand_few<E: Expand, G: Gate>(
     state: &mut HuntState<E>,
     alloc: Global,
-    problem: &E,
-    limit: u64,
-    gate: &G,
+    terms: &Terms<'_, E, G>,
     first: u32,
 ) -> Result<(), HuntError>
-    requires limit { limit ≤ most_parts }
-    requires between { IsBetweenRounds (E.hunted problem.now) (E.admits problem.now) E.reading first
-        limit state.old }
+    requires limit { terms.now.limit ≤ most_parts }
+    requires between { IsBetweenRounds (E.hunted terms.now.problem.now) (E.admits
+        terms.now.problem.now) E.reading first terms.now.limit state.old }
+    requires indexed { E.indexes terms.now.problem.now state.old.keys.keys terms.now.index.now }
     requires rows { state.old.rows.items ≡ [] }
-    ensures within { OnOk result (IsExpanded (E.hunted problem.now) (E.admits problem.now) E.reading
-        state.old.keys.keys first limit state.new.keys.keys (map numbered state.new.rows.items)
-        state.new) }
-    ensures more { IfErr result (IfTooMany limit (IsBeyond (E.hunted problem.now) limit)) }
+    ensures within { OnOk result (IsExpanded (E.hunted terms.now.problem.now) (E.admits
+        terms.now.problem.now) E.reading state.old.keys.keys first terms.now.limit
+        state.new.keys.keys (map numbered state.new.rows.items) state.new) }
+    ensures more { IfErr result (IfTooMany terms.now.limit (IsBeyond (E.hunted
+        terms.now.problem.now) terms.now.limit)) }
 {
+    let Terms {
+        problem,
+        index,
+        limit,
+        gate,
+    } = *terms;
     let bound = state.keys.len();
     for n in first..bound as u32 {
         gate.pass(0, n);
         let order = &state.keys.as_slice()[..bound];
-        let edges = match problem.expand(alloc, order, n, limit - state.parts) {
+        let edges = match problem.expand(alloc, order, index, n, limit - state.parts) {
             Ok(edges) => edges,
             Err(ExpandError::More) => return Err(HuntError::TooMany { limit }),
             Err(ExpandError::OutOfMemory) => return Err(HuntError::OutOfMemory),
@@ -50,28 +57,28 @@ fn expand_few<E: Expand, G: Gate>(
 pub(crate) fn round_of_few<E: Expand, G: Gate>(
     state: &mut HuntState<E>,
     alloc: Global,
-    problem: &E,
-    limit: u64,
-    gate: &G,
+    terms: &Terms<'_, E, G>,
     first: u32,
 ) -> Result<(), HuntError>
-    requires limit { limit ≤ most_parts }
-    requires between { IsBetweenRounds (E.hunted problem.now) (E.admits problem.now) E.reading first
-        limit state.old }
+    requires limit { terms.now.limit ≤ most_parts }
+    requires between { IsBetweenRounds (E.hunted terms.now.problem.now) (E.admits
+        terms.now.problem.now) E.reading first terms.now.limit state.old }
+    requires indexed { E.indexes terms.now.problem.now state.old.keys.keys terms.now.index.now }
     requires rows { state.old.rows.items ≡ [] }
-    ensures between { OnOk result (IsBetweenRounds (E.hunted problem.now) (E.admits problem.now)
-        E.reading (length state.old.keys.keys) limit state.new) }
-    ensures run { OnOk result (AppendsOutcome (E.hunted problem.now) E.Key.eq E.Key.shelf_of
-        state.old.keys.keys first state.new.keys.keys) }
+    ensures between { OnOk result (IsBetweenRounds (E.hunted terms.now.problem.now) (E.admits
+        terms.now.problem.now) E.reading (length state.old.keys.keys) terms.now.limit state.new) }
+    ensures run { OnOk result (AppendsOutcome (E.hunted terms.now.problem.now) E.Key.eq
+        E.Key.shelf_of state.old.keys.keys first state.new.keys.keys) }
     ensures rows { OnOk result (state.new.rows.items ≡ []) }
-    ensures more { IfErr result (IfTooMany limit (IsBeyond (E.hunted problem.now) limit)) }
+    ensures more { IfErr result (IfTooMany terms.now.limit (IsBeyond (E.hunted
+        terms.now.problem.now) terms.now.limit)) }
 {
     let order = state.keys.len() as u32;
-    match expand_few(state, alloc, problem, limit, gate, first) {
+    match expand_few(state, alloc, terms, first) {
         Ok(()) => {}
         Err(error) => return Err(error),
     }
-    let Ok(()) = state.settle(alloc, problem, order) else {
+    let Ok(()) = state.settle(alloc, terms.problem, order) else {
         return Err(HuntError::OutOfMemory);
     };
     Ok(())

@@ -7,6 +7,7 @@ ghost use Rattle.tib_hunt.specs.States.{IsBetweenRounds, AppendsOutcome};
 use crate::listed_round::round_of_few;
 use crate::shelved_round::work_round;
 use crate::state::HuntState;
+use crate::terms::Terms;
 use crate::worker_round::work_together;
 use std::alloc::Global;
 use std::sync::Wait;
@@ -21,29 +22,29 @@ use tib_expand::{Expand, Gate, HuntError};
 pub(crate) fn round_alone<E: Expand, G: Gate>(
     state: &mut HuntState<E>,
     alloc: Global,
-    problem: &E,
-    limit: u64,
+    terms: &Terms<'_, E, G>,
     many: usize,
-    gate: &G,
     first: u32,
 ) -> Result<(), HuntError>
-    requires limit { limit ≤ most_parts }
-    requires between { IsBetweenRounds (E.hunted problem.now) (E.admits problem.now) E.reading first
-        limit state.old }
+    requires limit { terms.now.limit ≤ most_parts }
+    requires between { IsBetweenRounds (E.hunted terms.now.problem.now) (E.admits
+        terms.now.problem.now) E.reading first terms.now.limit state.old }
+    requires indexed { E.indexes terms.now.problem.now state.old.keys.keys terms.now.index.now }
     requires rows { state.old.rows.items ≡ [] }
-    ensures between { OnOk result (IsBetweenRounds (E.hunted problem.now) (E.admits problem.now)
-        E.reading (length state.old.keys.keys) limit state.new) }
-    ensures run { OnOk result (AppendsOutcome (E.hunted problem.now) E.Key.eq E.Key.shelf_of
-        state.old.keys.keys first state.new.keys.keys) }
+    ensures between { OnOk result (IsBetweenRounds (E.hunted terms.now.problem.now) (E.admits
+        terms.now.problem.now) E.reading (length state.old.keys.keys) terms.now.limit state.new) }
+    ensures run { OnOk result (AppendsOutcome (E.hunted terms.now.problem.now) E.Key.eq
+        E.Key.shelf_of state.old.keys.keys first state.new.keys.keys) }
     ensures rows { OnOk result (state.new.rows.items ≡ []) }
-    ensures more { IfErr result (IfTooMany limit (IsBeyond (E.hunted problem.now) limit)) }
+    ensures more { IfErr result (IfTooMany terms.now.limit (IsBeyond (E.hunted
+        terms.now.problem.now) terms.now.limit)) }
 {
     if state.keys.len() - (first as usize) < many {
-        return round_of_few(state, alloc, problem, limit, gate, first);
+        return round_of_few(state, alloc, terms, first);
     }
     let order = state.keys.as_slice();
-    match work_round(alloc, problem, order, first, state.parts, limit, gate) {
-        Ok(worked) => state.end_round(alloc, problem, limit, first, worked),
+    match work_round(alloc, terms, order, first, state.parts) {
+        Ok(worked) => state.end_round(alloc, terms.problem, terms.limit, first, worked),
         Err(error) => Err(error),
     }
 }
@@ -54,35 +55,34 @@ pub(crate) fn round_together<E: Expand + Sync, G: Gate + Sync, R: Threads + Wait
     rt: &R,
     state: &mut HuntState<E>,
     alloc: Global,
-    problem: &E,
-    limit: u64,
+    terms: &Terms<'_, E, G>,
     workers: u32,
-    gate: &G,
     first: u32,
 ) -> Result<(), HuntError>
 where
     E::Key: Send + Sync,
     E::Over: Send,
     E::Rule: Send,
+    E::Index: Send + Sync,
     requires workers { (1 ≤ workers) × (workers ≤ 16) }
-    requires limit { limit ≤ most_parts }
-    requires between { IsBetweenRounds (E.hunted problem.now) (E.admits problem.now) E.reading first
-        limit state.old }
+    requires limit { terms.now.limit ≤ most_parts }
+    requires between { IsBetweenRounds (E.hunted terms.now.problem.now) (E.admits
+        terms.now.problem.now) E.reading first terms.now.limit state.old }
+    requires indexed { E.indexes terms.now.problem.now state.old.keys.keys terms.now.index.now }
     requires rows { state.old.rows.items ≡ [] }
-    ensures between { OnOk result (IsBetweenRounds (E.hunted problem.now) (E.admits problem.now)
-        E.reading (length state.old.keys.keys) limit state.new) }
-    ensures run { OnOk result (AppendsOutcome (E.hunted problem.now) E.Key.eq E.Key.shelf_of
-        state.old.keys.keys first state.new.keys.keys) }
+    ensures between { OnOk result (IsBetweenRounds (E.hunted terms.now.problem.now) (E.admits
+        terms.now.problem.now) E.reading (length state.old.keys.keys) terms.now.limit state.new) }
+    ensures run { OnOk result (AppendsOutcome (E.hunted terms.now.problem.now) E.Key.eq
+        E.Key.shelf_of state.old.keys.keys first state.new.keys.keys) }
     ensures rows { OnOk result (state.new.rows.items ≡ []) }
-    ensures more { IfErr result (IfTooMany limit (IsBeyond (E.hunted problem.now) limit)) }
+    ensures more { IfErr result (IfTooMany terms.now.limit (IsBeyond (E.hunted
+        terms.now.problem.now) terms.now.limit)) }
 {
     if state.keys.len() - (first as usize) < 2 {
-        return round_of_few(state, alloc, problem, limit, gate, first);
+        return round_of_few(state, alloc, terms, first);
     }
-    let keys = &state.keys;
-    let parts = state.parts;
-    match work_together(rt, alloc, problem, keys, first, parts, limit, workers, gate) {
-        Ok(worked) => state.end_round_together(rt, alloc, problem, limit, first, workers, worked),
+    match work_together(rt, alloc, terms, state, first, workers) {
+        Ok(worked) => state.end_round_together(rt, alloc, terms, first, workers, worked),
         Err(error) => Err(error),
     }
 }

@@ -16,6 +16,7 @@ use crate::lookups::Ruled;
 use crate::round::Round;
 use crate::round_of::RoundOf;
 use crate::shelving::{draw_item, file_item, shelve_ends};
+use crate::terms::Terms;
 use std::alloc::Global;
 use tib_expand::{Expand, ExpandError, Gate, HuntError, TableKey};
 use tib_workers::Row;
@@ -42,11 +43,10 @@ struct Work<R> {
 // edges, or the keys on the shelves, pass the limit.
 fn work_item<'a, 'b, E: Expand, G: Gate>(
     alloc: Global,
+    terms: &Terms<'_, E, G>,
     of: &'a RoundOf<'b, E>,
     round: &mut Round<&'a RoundOf<'b, E>>,
     work: &mut Work<E::Over>,
-    limit: u64,
-    gate: &G,
     item: u32,
 ) -> Result<(), HuntError>
     requires about { round.old.about ≡ (of.now.problem.now, of.now.order.now, of.now.first) }
@@ -55,23 +55,27 @@ fn work_item<'a, 'b, E: Expand, G: Gate>(
     requires kept { IsKept E.Key.shelf_of of.now.first (length of.now.order.now - of.now.first)
         (IsEndAt (E.hunted of.now.problem.now) of.now.order.now) round.old.core }
     requires admitted { Each (E.admits of.now.problem.now) of.now.order.now }
-    requires within { work.old.parts ≤ limit }
+    requires indexed { E.indexes of.now.problem.now of.now.order.now terms.now.index.now }
+    requires within { work.old.parts ≤ terms.now.limit }
     requires counted { work.old.seen ≡ total (key_parts E.Key.entries_of)
         (all_on round.old.core.shelves) }
-    requires few { work.old.seen ≤ limit }
-    requires limit { limit ≤ most_parts }
+    requires few { work.old.seen ≤ terms.now.limit }
+    requires limit { terms.now.limit ≤ most_parts }
     ensures about { round.new.about ≡ round.old.about }
     ensures worked { OnOk result (WorksItem (E.hunted of.now.problem.now) E.reading E.Key.eq
-        E.Key.shelf_of of.now.order.now item limit round.old.core work.old round.new.core
+        E.Key.shelf_of of.now.order.now item terms.now.limit round.old.core work.old round.new.core
         work.new) }
     ensures counted { OnOk result (work.new.seen ≡ total (key_parts E.Key.entries_of)
         (all_on round.new.core.shelves)) }
-    ensures few { OnOk result (work.new.seen ≤ limit) }
-    ensures more { IfErr result (IfTooMany limit (IsTooMuch (E.hunted of.now.problem.now) E.reading
-        E.Key.eq E.Key.shelf_of of.now.order.now item round.old.core work.old.parts limit)) }
+    ensures few { OnOk result (work.new.seen ≤ terms.now.limit) }
+    ensures more { IfErr result (IfTooMany terms.now.limit (IsTooMuch (E.hunted of.now.problem.now)
+        E.reading E.Key.eq E.Key.shelf_of of.now.order.now item round.old.core work.old.parts
+        terms.now.limit)) }
 {
-    gate.pass(0, item);
-    let edges = match of.problem.expand(alloc, of.order, item, limit - work.parts) {
+    let limit = terms.limit;
+    terms.gate.pass(0, item);
+    let left = limit - work.parts;
+    let edges = match of.problem.expand(alloc, of.order, terms.index, item, left) {
         Ok(edges) => edges,
         Err(ExpandError::More) => return Err(HuntError::TooMany { limit }),
         Err(ExpandError::OutOfMemory) => return Err(HuntError::OutOfMemory),
@@ -105,24 +109,24 @@ fn work_item<'a, 'b, E: Expand, G: Gate>(
 /// leaves in which all ends are numbered (`run`).
 pub(crate) fn work_round<E: Expand, G: Gate>(
     alloc: Global,
-    problem: &E,
+    terms: &Terms<'_, E, G>,
     order: &[E::Key],
     first: u32,
     parts: u64,
-    limit: u64,
-    gate: &G,
 ) -> Result<Worked<E::Key, E::Over>, HuntError>
-    requires limit { limit ≤ most_parts }
-    requires between { (rules : List E.Rule) × IsBetween (E.hunted problem.now)
-        (E.admits problem.now) E.reading first order.now rules parts limit }
-    ensures worked { IfOk result (WorksRound (E.hunted problem.now) E.reading E.Key.shelf_of
-        order.now first parts limit) }
-    ensures run { IfOk result (IsRunOverAll (E.hunted problem.now) E.Key.eq E.Key.shelf_of order.now
-        first) }
-    ensures more { IfErr result (IfTooMany limit (IsBeyond (E.hunted problem.now) limit)) }
+    requires limit { terms.now.limit ≤ most_parts }
+    requires between { (rules : List E.Rule) × IsBetween (E.hunted terms.now.problem.now)
+        (E.admits terms.now.problem.now) E.reading first order.now rules parts terms.now.limit }
+    requires indexed { E.indexes terms.now.problem.now order.now terms.now.index.now }
+    ensures worked { IfOk result (WorksRound (E.hunted terms.now.problem.now) E.reading
+        E.Key.shelf_of order.now first parts terms.now.limit) }
+    ensures run { IfOk result (IsRunOverAll (E.hunted terms.now.problem.now) E.Key.eq E.Key.shelf_of
+        order.now first) }
+    ensures more { IfErr result (IfTooMany terms.now.limit (IsBeyond (E.hunted
+        terms.now.problem.now) terms.now.limit)) }
 {
     let of = RoundOf {
-        problem,
+        problem: terms.problem,
         order,
         first,
     };
@@ -142,7 +146,7 @@ pub(crate) fn work_round<E: Expand, G: Gate>(
             return Err(HuntError::OutOfMemory);
         };
         let Some(item) = drawn else { unreachable!() };
-        match work_item(alloc, &of, &mut round, &mut work, limit, gate, item) {
+        match work_item(alloc, terms, &of, &mut round, &mut work, item) {
             Ok(()) => {}
             Err(error) => return Err(error),
         }

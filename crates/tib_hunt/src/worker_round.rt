@@ -1,15 +1,15 @@
 //! A round by several workers, who draw and expand its items, number the ends in one table, and
 //! hand over rows.
 
-ghost use Rattle.std.specs.Prelude.{◌≡◌, ◌≤◌, List, IfOk, IfErr};
+ghost use Rattle.std.specs.Prelude.{◌≡◌, ◌≤◌, IfOk, IfErr};
 ghost use Rattle.tib_workers.specs.Rows.{parts_in};
-ghost use Rattle.tib_hunt.specs.Held.{IsBetween};
 ghost use Rattle.tib_expand.specs.Reached.{IfTooMany, IsBeyond, most_parts};
-ghost use Rattle.tib_hunt.specs.States.{WorksRound, LacksAll, IsRunOverLacked};
+ghost use Rattle.tib_hunt.specs.States.{IsBetweenRounds, WorksRound, LacksAll, IsRunOverLacked};
 
 use crate::job::JobOf;
 use crate::shelved_round::Worked;
-use indexmap::IndexSet;
+use crate::state::HuntState;
+use crate::terms::Terms;
 use std::alloc::Global;
 use std::sync::Wait;
 use std::thread::Threads;
@@ -37,39 +37,40 @@ fn count_parts<T>(rows: &[Row<T>]) -> u64
 /// that their steps are the events of such a run, in the order in which the machine does them: that
 /// a worker draws an item, numbers those of its ends that the order lacks, and then makes its row,
 /// is seen in the code.
-pub(crate) fn work_together<'x, E: Expand + Sync, G: Gate + Sync, R: Threads + Wait + Sync>(
+pub(crate) fn work_together<E: Expand + Sync, G: Gate + Sync, R: Threads + Wait + Sync>(
     rt: &R,
     alloc: Global,
-    problem: &'x E,
-    keys: &'x IndexSet<E::Key>,
+    terms: &Terms<'_, E, G>,
+    state: &HuntState<E>,
     first: u32,
-    parts: u64,
-    limit: u64,
     workers: u32,
-    gate: &'x G,
 ) -> Result<Worked<E::Key, E::Over>, HuntError>
 where
     E::Key: Send + Sync,
     E::Over: Send,
     E::Rule: Send,
+    E::Index: Sync,
     requires workers { (1 ≤ workers) × (workers ≤ 16) }
-    requires limit { limit ≤ most_parts }
-    requires between { (rules : List E.Rule) × IsBetween (E.hunted problem.now)
-        (E.admits problem.now) E.reading first keys.now.keys rules parts limit }
-    ensures worked { IfOk result (WorksRound (E.hunted problem.now) E.reading E.Key.shelf_of
-        keys.now.keys first parts limit) }
-    ensures apart { IfOk result (LacksAll keys.now.keys) }
-    ensures run { IfOk result (IsRunOverLacked (E.hunted problem.now) E.Key.eq E.Key.shelf_of
-        keys.now.keys first) }
-    ensures more { IfErr result (IfTooMany limit (IsBeyond (E.hunted problem.now) limit)) }
+    requires limit { terms.now.limit ≤ most_parts }
+    requires between { IsBetweenRounds (E.hunted terms.now.problem.now) (E.admits
+        terms.now.problem.now) E.reading first terms.now.limit state.now }
+    requires indexed { E.indexes terms.now.problem.now state.now.keys.keys terms.now.index.now }
+    ensures worked { IfOk result (WorksRound (E.hunted terms.now.problem.now) E.reading
+        E.Key.shelf_of state.now.keys.keys first state.now.parts terms.now.limit) }
+    ensures apart { IfOk result (LacksAll state.now.keys.keys) }
+    ensures run { IfOk result (IsRunOverLacked (E.hunted terms.now.problem.now) E.Key.eq
+        E.Key.shelf_of state.now.keys.keys first) }
+    ensures more { IfErr result (IfTooMany terms.now.limit (IsBeyond (E.hunted
+        terms.now.problem.now) terms.now.limit)) }
 {
     let job = JobOf {
-        problem,
-        keys,
+        terms,
+        keys: &state.keys,
         first,
-        gate,
     };
-    let Gathered { rows, shelves } = match perform_all(rt, alloc, &job, workers, limit - parts) {
+    let limit = terms.limit;
+    let left = limit - state.parts;
+    let Gathered { rows, shelves } = match perform_all(rt, alloc, &job, workers, left) {
         Ok(gathered) => gathered,
         Err(Unperformed::More) => return Err(HuntError::TooMany { limit }),
         Err(Unperformed::OutOfMemory) => return Err(HuntError::OutOfMemory),
@@ -81,6 +82,6 @@ where
     Ok(Worked {
         shelves,
         rows,
-        parts: parts + made,
+        parts: state.parts + made,
     })
 }

@@ -34,4 +34,4 @@ returns-clause-worked g c = record {
 
 pub returns-in-Err-clause-more : goal.returns-in-Err-clause-more
 returns-in-Err-clause-more g c = told_shelves (hunt_of (g.met.E.Expand.lawful c.args.of.now.problem.now) g.met.E.Key.Ord.total g.met.E.Key.TableKey.same g.met.E.Key.Eq.laws.refl) g.E.Key.TableKey.shelf_of (λ x. g.met.E.Key.TableKey.low x)
-    c.args.of.now.order.now c.args.item c.args.round.now.core c.args.work.now.parts c.args.limit c.in-Ok.edges.ends.items c.in-Ok.ensures.ends c.in-Err.error c.in-Err.ensures.more
+    c.args.of.now.order.now c.args.item c.args.round.now.core c.args.work.now.parts c.args.terms.now.limit c.in-Ok.edges.ends.items c.in-Ok.ensures.ends c.in-Err.error c.in-Err.ensures.more

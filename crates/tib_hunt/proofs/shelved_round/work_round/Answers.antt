@@ -12,7 +12,7 @@ use Rattle.tib_hunt.proofs.shelved_round.work_round.Goals as goal
 pub invariant_of-of : goal.invariant_of-of
 invariant_of-of g c =
     let b = c.requires.between.1 in
-    let few = few_keys (hunt_of (g.met.E.Expand.lawful c.args.problem.now) g.met.E.Key.Ord.total g.met.E.Key.TableKey.same g.met.E.Key.Eq.laws.refl) b.held in
+    let few = few_keys (hunt_of (g.met.E.Expand.lawful c.args.terms.now.problem.now) g.met.E.Key.Ord.total g.met.E.Key.TableKey.same g.met.E.Key.Eq.laws.refl) b.held in
     let l = c.requires.limit in
     record { within = b.low; few = omega arith }
 
@@ -21,24 +21,24 @@ loop-init g c =
     let e = c.in-Ok.ensures in
     record {
       about = ap (λ r. r.about) e;
-      underway = subst (λ s. IsUnderway (g.E.Expand.hunted c.args.problem.now) g.E.Expand.reading g.E.Key.PartialEq.eq g.E.Key.TableKey.shelf_of c.args.order.now c.args.first c.args.first s c.in-Ok-with_capacity.rows.items c.args.parts c.args.parts c.args.limit) (sym (ap (λ r. r.core) e))
-          (subst (λ rows. IsUnderway (g.E.Expand.hunted c.args.problem.now) g.E.Expand.reading g.E.Key.PartialEq.eq g.E.Key.TableKey.shelf_of c.args.order.now c.args.first c.args.first _ rows c.args.parts c.args.parts c.args.limit) (sym c.in-Ok-with_capacity.ensures.items) (underway_none (hunt_of (g.met.E.Expand.lawful c.args.problem.now) g.met.E.Key.Ord.total g.met.E.Key.TableKey.same g.met.E.Key.Eq.laws.refl) g.E.Key.TableKey.shelf_of (λ x. g.met.E.Key.TableKey.low x) c.args.order.now c.args.first c.args.parts c.args.limit c.requires.between.1.held.within));
+      underway = subst (λ s. IsUnderway (g.E.Expand.hunted c.args.terms.now.problem.now) g.E.Expand.reading g.E.Key.PartialEq.eq g.E.Key.TableKey.shelf_of c.args.order.now c.args.first c.args.first s c.in-Ok-with_capacity.rows.items c.args.parts c.args.parts c.args.terms.now.limit) (sym (ap (λ r. r.core) e))
+          (subst (λ rows. IsUnderway (g.E.Expand.hunted c.args.terms.now.problem.now) g.E.Expand.reading g.E.Key.PartialEq.eq g.E.Key.TableKey.shelf_of c.args.order.now c.args.first c.args.first _ rows c.args.parts c.args.parts c.args.terms.now.limit) (sym c.in-Ok-with_capacity.ensures.items) (underway_none (hunt_of (g.met.E.Expand.lawful c.args.terms.now.problem.now) g.met.E.Key.Ord.total g.met.E.Key.TableKey.same g.met.E.Key.Eq.laws.refl) g.E.Key.TableKey.shelf_of (λ x. g.met.E.Key.TableKey.low x) c.args.order.now c.args.first c.args.parts c.args.terms.now.limit c.requires.between.1.held.within));
       drawn = (let d = ap (λ r. r.core.drawn) e in omega arith);
       counted = sym (ap (λ r. total (key_parts g.E.Key.TableKey.entries_of) (all_on r.core.shelves)) e);
       few = omega arith;
     }
 
 pub returns-in-Err-clause-more : goal.returns-in-Err-clause-more
-returns-in-Err-clause-more g c = told_much (hunt_of (g.met.E.Expand.lawful c.args.problem.now) g.met.E.Key.Ord.total g.met.E.Key.TableKey.same g.met.E.Key.Eq.laws.refl) g.E.Key.TableKey.shelf_of (λ x. g.met.E.Key.TableKey.low x) c.args.order.now c.args.first c.loop.counter c.draw_item.new.round.core c.loop.work.rows.items c.args.parts c.loop.work.parts c.args.limit (next_under (hunt_of (g.met.E.Expand.lawful c.args.problem.now) g.met.E.Key.Ord.total g.met.E.Key.TableKey.same g.met.E.Key.Eq.laws.refl) g.E.Key.TableKey.shelf_of (λ x. g.met.E.Key.TableKey.low x) c.args.order.now c.args.first c.loop.counter c.loop.round.core c.loop.work.rows.items c.args.parts c.loop.work.parts c.args.limit c.loop.invariant.underway c.args.problem.now c.loop.round.about c.loop.invariant.about c.draw_item.new.round.core c.in-Ok-draw_item.ensures.core c.loop.invariant.drawn (let t = c.loop-test.true in omega arith) c.in-Ok-draw_item.drawn c.in-Ok-draw_item.ensures.next) (next_at (hunt_of (g.met.E.Expand.lawful c.args.problem.now) g.met.E.Key.Ord.total g.met.E.Key.TableKey.same g.met.E.Key.Eq.laws.refl) g.E.Key.TableKey.shelf_of (λ x. g.met.E.Key.TableKey.low x) c.args.order.now c.args.first c.loop.counter c.loop.round.core c.loop.work.rows.items c.args.parts c.loop.work.parts c.args.limit c.loop.invariant.underway c.args.problem.now c.loop.round.about c.loop.invariant.about c.draw_item.new.round.core c.in-Ok-draw_item.ensures.core c.loop.invariant.drawn (let t = c.loop-test.true in omega arith) c.in-Ok-draw_item.drawn c.in-Ok-draw_item.ensures.next) c.requires.between.0 c.requires.between.1 (let t = c.loop-test.true in omega arith) c.in-Err.error
-    (subst (λ i. IfTooMany c.args.limit (IsTooMuch (g.E.Expand.hunted c.args.problem.now) g.E.Expand.reading g.E.Key.PartialEq.eq g.E.Key.TableKey.shelf_of c.args.order.now i c.draw_item.new.round.core c.loop.work.parts c.args.limit) c.in-Err.error) (next_is (hunt_of (g.met.E.Expand.lawful c.args.problem.now) g.met.E.Key.Ord.total g.met.E.Key.TableKey.same g.met.E.Key.Eq.laws.refl) g.E.Key.TableKey.shelf_of (λ x. g.met.E.Key.TableKey.low x) c.args.order.now c.args.first c.loop.counter c.loop.round.core c.loop.work.rows.items c.args.parts c.loop.work.parts c.args.limit c.loop.invariant.underway c.args.problem.now c.loop.round.about c.loop.invariant.about c.draw_item.new.round.core c.in-Ok-draw_item.ensures.core c.loop.invariant.drawn (let t = c.loop-test.true in omega arith) c.in-Ok-draw_item.drawn c.in-Ok-draw_item.ensures.next c.in-Some.item c.in-Some.is) c.in-Err.ensures.more)
+returns-in-Err-clause-more g c = told_much (hunt_of (g.met.E.Expand.lawful c.args.terms.now.problem.now) g.met.E.Key.Ord.total g.met.E.Key.TableKey.same g.met.E.Key.Eq.laws.refl) g.E.Key.TableKey.shelf_of (λ x. g.met.E.Key.TableKey.low x) c.args.order.now c.args.first c.loop.counter c.draw_item.new.round.core c.loop.work.rows.items c.args.parts c.loop.work.parts c.args.terms.now.limit (next_under (hunt_of (g.met.E.Expand.lawful c.args.terms.now.problem.now) g.met.E.Key.Ord.total g.met.E.Key.TableKey.same g.met.E.Key.Eq.laws.refl) g.E.Key.TableKey.shelf_of (λ x. g.met.E.Key.TableKey.low x) c.args.order.now c.args.first c.loop.counter c.loop.round.core c.loop.work.rows.items c.args.parts c.loop.work.parts c.args.terms.now.limit c.loop.invariant.underway c.args.terms.now.problem.now c.loop.round.about c.loop.invariant.about c.draw_item.new.round.core c.in-Ok-draw_item.ensures.core c.loop.invariant.drawn (let t = c.loop-test.true in omega arith) c.in-Ok-draw_item.drawn c.in-Ok-draw_item.ensures.next) (next_at (hunt_of (g.met.E.Expand.lawful c.args.terms.now.problem.now) g.met.E.Key.Ord.total g.met.E.Key.TableKey.same g.met.E.Key.Eq.laws.refl) g.E.Key.TableKey.shelf_of (λ x. g.met.E.Key.TableKey.low x) c.args.order.now c.args.first c.loop.counter c.loop.round.core c.loop.work.rows.items c.args.parts c.loop.work.parts c.args.terms.now.limit c.loop.invariant.underway c.args.terms.now.problem.now c.loop.round.about c.loop.invariant.about c.draw_item.new.round.core c.in-Ok-draw_item.ensures.core c.loop.invariant.drawn (let t = c.loop-test.true in omega arith) c.in-Ok-draw_item.drawn c.in-Ok-draw_item.ensures.next) c.requires.between.0 c.requires.between.1 (let t = c.loop-test.true in omega arith) c.in-Err.error
+    (subst (λ i. IfTooMany c.args.terms.now.limit (IsTooMuch (g.E.Expand.hunted c.args.terms.now.problem.now) g.E.Expand.reading g.E.Key.PartialEq.eq g.E.Key.TableKey.shelf_of c.args.order.now i c.draw_item.new.round.core c.loop.work.parts c.args.terms.now.limit) c.in-Err.error) (next_is (hunt_of (g.met.E.Expand.lawful c.args.terms.now.problem.now) g.met.E.Key.Ord.total g.met.E.Key.TableKey.same g.met.E.Key.Eq.laws.refl) g.E.Key.TableKey.shelf_of (λ x. g.met.E.Key.TableKey.low x) c.args.order.now c.args.first c.loop.counter c.loop.round.core c.loop.work.rows.items c.args.parts c.loop.work.parts c.args.terms.now.limit c.loop.invariant.underway c.args.terms.now.problem.now c.loop.round.about c.loop.invariant.about c.draw_item.new.round.core c.in-Ok-draw_item.ensures.core c.loop.invariant.drawn (let t = c.loop-test.true in omega arith) c.in-Ok-draw_item.drawn c.in-Ok-draw_item.ensures.next c.in-Some.item c.in-Some.is) c.in-Err.ensures.more)
 
 pub loop-preserved : goal.loop-preserved
 loop-preserved g c = record {
   about = c.in-Ok-work_item.ensures.about ∙ c.in-Ok-draw_item.ensures.about ∙ c.loop.invariant.about;
-  underway = underway_more (hunt_of (g.met.E.Expand.lawful c.args.problem.now) g.met.E.Key.Ord.total g.met.E.Key.TableKey.same g.met.E.Key.Eq.laws.refl) g.E.Key.TableKey.shelf_of (λ x. g.met.E.Key.TableKey.low x) c.args.order.now c.args.first c.loop.counter c.draw_item.new.round.core c.loop.work.rows.items c.args.parts c.loop.work.parts c.args.limit (next_under (hunt_of (g.met.E.Expand.lawful c.args.problem.now) g.met.E.Key.Ord.total g.met.E.Key.TableKey.same g.met.E.Key.Eq.laws.refl) g.E.Key.TableKey.shelf_of (λ x. g.met.E.Key.TableKey.low x) c.args.order.now c.args.first c.loop.counter c.loop.round.core c.loop.work.rows.items c.args.parts c.loop.work.parts c.args.limit c.loop.invariant.underway c.args.problem.now c.loop.round.about c.loop.invariant.about c.draw_item.new.round.core c.in-Ok-draw_item.ensures.core c.loop.invariant.drawn (let t = c.loop-test.true in omega arith) c.in-Ok-draw_item.drawn c.in-Ok-draw_item.ensures.next) (next_at (hunt_of (g.met.E.Expand.lawful c.args.problem.now) g.met.E.Key.Ord.total g.met.E.Key.TableKey.same g.met.E.Key.Eq.laws.refl) g.E.Key.TableKey.shelf_of (λ x. g.met.E.Key.TableKey.low x) c.args.order.now c.args.first c.loop.counter c.loop.round.core c.loop.work.rows.items c.args.parts c.loop.work.parts c.args.limit c.loop.invariant.underway c.args.problem.now c.loop.round.about c.loop.invariant.about c.draw_item.new.round.core c.in-Ok-draw_item.ensures.core c.loop.invariant.drawn (let t = c.loop-test.true in omega arith) c.in-Ok-draw_item.drawn c.in-Ok-draw_item.ensures.next) c.work_item.new.round.core c.work_item.new.work.rows.items c.work_item.new.work.parts
-      (subst (λ i. IsWorked (g.E.Expand.hunted c.args.problem.now) g.E.Expand.reading g.E.Key.PartialEq.eq g.E.Key.TableKey.shelf_of c.args.order.now i c.draw_item.new.round.core c.loop.work.rows.items c.loop.work.parts c.work_item.new.round.core c.work_item.new.work.rows.items c.work_item.new.work.parts c.args.limit) (next_is (hunt_of (g.met.E.Expand.lawful c.args.problem.now) g.met.E.Key.Ord.total g.met.E.Key.TableKey.same g.met.E.Key.Eq.laws.refl) g.E.Key.TableKey.shelf_of (λ x. g.met.E.Key.TableKey.low x) c.args.order.now c.args.first c.loop.counter c.loop.round.core c.loop.work.rows.items c.args.parts c.loop.work.parts c.args.limit c.loop.invariant.underway c.args.problem.now c.loop.round.about c.loop.invariant.about c.draw_item.new.round.core c.in-Ok-draw_item.ensures.core c.loop.invariant.drawn (let t = c.loop-test.true in omega arith) c.in-Ok-draw_item.drawn c.in-Ok-draw_item.ensures.next c.in-Some.item c.in-Some.is) c.in-Ok-work_item.ensures.worked);
-  drawn = more_at (hunt_of (g.met.E.Expand.lawful c.args.problem.now) g.met.E.Key.Ord.total g.met.E.Key.TableKey.same g.met.E.Key.Eq.laws.refl) g.E.Key.TableKey.shelf_of (λ x. g.met.E.Key.TableKey.low x) c.args.order.now c.args.first c.loop.counter c.draw_item.new.round.core c.loop.work.rows.items c.args.parts c.loop.work.parts c.args.limit (next_under (hunt_of (g.met.E.Expand.lawful c.args.problem.now) g.met.E.Key.Ord.total g.met.E.Key.TableKey.same g.met.E.Key.Eq.laws.refl) g.E.Key.TableKey.shelf_of (λ x. g.met.E.Key.TableKey.low x) c.args.order.now c.args.first c.loop.counter c.loop.round.core c.loop.work.rows.items c.args.parts c.loop.work.parts c.args.limit c.loop.invariant.underway c.args.problem.now c.loop.round.about c.loop.invariant.about c.draw_item.new.round.core c.in-Ok-draw_item.ensures.core c.loop.invariant.drawn (let t = c.loop-test.true in omega arith) c.in-Ok-draw_item.drawn c.in-Ok-draw_item.ensures.next) (next_at (hunt_of (g.met.E.Expand.lawful c.args.problem.now) g.met.E.Key.Ord.total g.met.E.Key.TableKey.same g.met.E.Key.Eq.laws.refl) g.E.Key.TableKey.shelf_of (λ x. g.met.E.Key.TableKey.low x) c.args.order.now c.args.first c.loop.counter c.loop.round.core c.loop.work.rows.items c.args.parts c.loop.work.parts c.args.limit c.loop.invariant.underway c.args.problem.now c.loop.round.about c.loop.invariant.about c.draw_item.new.round.core c.in-Ok-draw_item.ensures.core c.loop.invariant.drawn (let t = c.loop-test.true in omega arith) c.in-Ok-draw_item.drawn c.in-Ok-draw_item.ensures.next) c.work_item.new.round.core c.work_item.new.work.rows.items c.work_item.new.work.parts
-      (subst (λ i. IsWorked (g.E.Expand.hunted c.args.problem.now) g.E.Expand.reading g.E.Key.PartialEq.eq g.E.Key.TableKey.shelf_of c.args.order.now i c.draw_item.new.round.core c.loop.work.rows.items c.loop.work.parts c.work_item.new.round.core c.work_item.new.work.rows.items c.work_item.new.work.parts c.args.limit) (next_is (hunt_of (g.met.E.Expand.lawful c.args.problem.now) g.met.E.Key.Ord.total g.met.E.Key.TableKey.same g.met.E.Key.Eq.laws.refl) g.E.Key.TableKey.shelf_of (λ x. g.met.E.Key.TableKey.low x) c.args.order.now c.args.first c.loop.counter c.loop.round.core c.loop.work.rows.items c.args.parts c.loop.work.parts c.args.limit c.loop.invariant.underway c.args.problem.now c.loop.round.about c.loop.invariant.about c.draw_item.new.round.core c.in-Ok-draw_item.ensures.core c.loop.invariant.drawn (let t = c.loop-test.true in omega arith) c.in-Ok-draw_item.drawn c.in-Ok-draw_item.ensures.next c.in-Some.item c.in-Some.is) c.in-Ok-work_item.ensures.worked);
+  underway = underway_more (hunt_of (g.met.E.Expand.lawful c.args.terms.now.problem.now) g.met.E.Key.Ord.total g.met.E.Key.TableKey.same g.met.E.Key.Eq.laws.refl) g.E.Key.TableKey.shelf_of (λ x. g.met.E.Key.TableKey.low x) c.args.order.now c.args.first c.loop.counter c.draw_item.new.round.core c.loop.work.rows.items c.args.parts c.loop.work.parts c.args.terms.now.limit (next_under (hunt_of (g.met.E.Expand.lawful c.args.terms.now.problem.now) g.met.E.Key.Ord.total g.met.E.Key.TableKey.same g.met.E.Key.Eq.laws.refl) g.E.Key.TableKey.shelf_of (λ x. g.met.E.Key.TableKey.low x) c.args.order.now c.args.first c.loop.counter c.loop.round.core c.loop.work.rows.items c.args.parts c.loop.work.parts c.args.terms.now.limit c.loop.invariant.underway c.args.terms.now.problem.now c.loop.round.about c.loop.invariant.about c.draw_item.new.round.core c.in-Ok-draw_item.ensures.core c.loop.invariant.drawn (let t = c.loop-test.true in omega arith) c.in-Ok-draw_item.drawn c.in-Ok-draw_item.ensures.next) (next_at (hunt_of (g.met.E.Expand.lawful c.args.terms.now.problem.now) g.met.E.Key.Ord.total g.met.E.Key.TableKey.same g.met.E.Key.Eq.laws.refl) g.E.Key.TableKey.shelf_of (λ x. g.met.E.Key.TableKey.low x) c.args.order.now c.args.first c.loop.counter c.loop.round.core c.loop.work.rows.items c.args.parts c.loop.work.parts c.args.terms.now.limit c.loop.invariant.underway c.args.terms.now.problem.now c.loop.round.about c.loop.invariant.about c.draw_item.new.round.core c.in-Ok-draw_item.ensures.core c.loop.invariant.drawn (let t = c.loop-test.true in omega arith) c.in-Ok-draw_item.drawn c.in-Ok-draw_item.ensures.next) c.work_item.new.round.core c.work_item.new.work.rows.items c.work_item.new.work.parts
+      (subst (λ i. IsWorked (g.E.Expand.hunted c.args.terms.now.problem.now) g.E.Expand.reading g.E.Key.PartialEq.eq g.E.Key.TableKey.shelf_of c.args.order.now i c.draw_item.new.round.core c.loop.work.rows.items c.loop.work.parts c.work_item.new.round.core c.work_item.new.work.rows.items c.work_item.new.work.parts c.args.terms.now.limit) (next_is (hunt_of (g.met.E.Expand.lawful c.args.terms.now.problem.now) g.met.E.Key.Ord.total g.met.E.Key.TableKey.same g.met.E.Key.Eq.laws.refl) g.E.Key.TableKey.shelf_of (λ x. g.met.E.Key.TableKey.low x) c.args.order.now c.args.first c.loop.counter c.loop.round.core c.loop.work.rows.items c.args.parts c.loop.work.parts c.args.terms.now.limit c.loop.invariant.underway c.args.terms.now.problem.now c.loop.round.about c.loop.invariant.about c.draw_item.new.round.core c.in-Ok-draw_item.ensures.core c.loop.invariant.drawn (let t = c.loop-test.true in omega arith) c.in-Ok-draw_item.drawn c.in-Ok-draw_item.ensures.next c.in-Some.item c.in-Some.is) c.in-Ok-work_item.ensures.worked);
+  drawn = more_at (hunt_of (g.met.E.Expand.lawful c.args.terms.now.problem.now) g.met.E.Key.Ord.total g.met.E.Key.TableKey.same g.met.E.Key.Eq.laws.refl) g.E.Key.TableKey.shelf_of (λ x. g.met.E.Key.TableKey.low x) c.args.order.now c.args.first c.loop.counter c.draw_item.new.round.core c.loop.work.rows.items c.args.parts c.loop.work.parts c.args.terms.now.limit (next_under (hunt_of (g.met.E.Expand.lawful c.args.terms.now.problem.now) g.met.E.Key.Ord.total g.met.E.Key.TableKey.same g.met.E.Key.Eq.laws.refl) g.E.Key.TableKey.shelf_of (λ x. g.met.E.Key.TableKey.low x) c.args.order.now c.args.first c.loop.counter c.loop.round.core c.loop.work.rows.items c.args.parts c.loop.work.parts c.args.terms.now.limit c.loop.invariant.underway c.args.terms.now.problem.now c.loop.round.about c.loop.invariant.about c.draw_item.new.round.core c.in-Ok-draw_item.ensures.core c.loop.invariant.drawn (let t = c.loop-test.true in omega arith) c.in-Ok-draw_item.drawn c.in-Ok-draw_item.ensures.next) (next_at (hunt_of (g.met.E.Expand.lawful c.args.terms.now.problem.now) g.met.E.Key.Ord.total g.met.E.Key.TableKey.same g.met.E.Key.Eq.laws.refl) g.E.Key.TableKey.shelf_of (λ x. g.met.E.Key.TableKey.low x) c.args.order.now c.args.first c.loop.counter c.loop.round.core c.loop.work.rows.items c.args.parts c.loop.work.parts c.args.terms.now.limit c.loop.invariant.underway c.args.terms.now.problem.now c.loop.round.about c.loop.invariant.about c.draw_item.new.round.core c.in-Ok-draw_item.ensures.core c.loop.invariant.drawn (let t = c.loop-test.true in omega arith) c.in-Ok-draw_item.drawn c.in-Ok-draw_item.ensures.next) c.work_item.new.round.core c.work_item.new.work.rows.items c.work_item.new.work.parts
+      (subst (λ i. IsWorked (g.E.Expand.hunted c.args.terms.now.problem.now) g.E.Expand.reading g.E.Key.PartialEq.eq g.E.Key.TableKey.shelf_of c.args.order.now i c.draw_item.new.round.core c.loop.work.rows.items c.loop.work.parts c.work_item.new.round.core c.work_item.new.work.rows.items c.work_item.new.work.parts c.args.terms.now.limit) (next_is (hunt_of (g.met.E.Expand.lawful c.args.terms.now.problem.now) g.met.E.Key.Ord.total g.met.E.Key.TableKey.same g.met.E.Key.Eq.laws.refl) g.E.Key.TableKey.shelf_of (λ x. g.met.E.Key.TableKey.low x) c.args.order.now c.args.first c.loop.counter c.loop.round.core c.loop.work.rows.items c.args.parts c.loop.work.parts c.args.terms.now.limit c.loop.invariant.underway c.args.terms.now.problem.now c.loop.round.about c.loop.invariant.about c.draw_item.new.round.core c.in-Ok-draw_item.ensures.core c.loop.invariant.drawn (let t = c.loop-test.true in omega arith) c.in-Ok-draw_item.drawn c.in-Ok-draw_item.ensures.next c.in-Some.item c.in-Some.is) c.in-Ok-work_item.ensures.worked);
   counted = c.in-Ok-work_item.ensures.counted;
   few = c.in-Ok-work_item.ensures.few;
 }
@@ -51,8 +51,8 @@ returns-clause-worked g c =
     let low = c.requires.between.1.low in
     let t = c.loop-test.false in
     let e : c.loop.counter ≡ length c.args.order.now = omega arith in
-    underway_worked (hunt_of (g.met.E.Expand.lawful c.args.problem.now) g.met.E.Key.Ord.total g.met.E.Key.TableKey.same g.met.E.Key.Eq.laws.refl) g.E.Key.TableKey.shelf_of (λ x. g.met.E.Key.TableKey.low x) c.args.order.now c.args.first c.loop.round.core c.loop.work.rows.items c.args.parts c.loop.work.parts c.args.limit
-    (subst (λ n. IsUnderway (g.E.Expand.hunted c.args.problem.now) g.E.Expand.reading g.E.Key.PartialEq.eq g.E.Key.TableKey.shelf_of c.args.order.now c.args.first n c.loop.round.core c.loop.work.rows.items c.args.parts c.loop.work.parts c.args.limit) e u)
+    underway_worked (hunt_of (g.met.E.Expand.lawful c.args.terms.now.problem.now) g.met.E.Key.Ord.total g.met.E.Key.TableKey.same g.met.E.Key.Eq.laws.refl) g.E.Key.TableKey.shelf_of (λ x. g.met.E.Key.TableKey.low x) c.args.order.now c.args.first c.loop.round.core c.loop.work.rows.items c.args.parts c.loop.work.parts c.args.terms.now.limit
+    (subst (λ n. IsUnderway (g.E.Expand.hunted c.args.terms.now.problem.now) g.E.Expand.reading g.E.Key.PartialEq.eq g.E.Key.TableKey.shelf_of c.args.order.now c.args.first n c.loop.round.core c.loop.work.rows.items c.args.parts c.loop.work.parts c.args.terms.now.limit) e u)
     (map (λ v. v.items) c.in-Ok-close.shelves.items) (sym c.in-Ok-close.ensures)
 
 pub returns-clause-run : goal.returns-clause-run
@@ -63,6 +63,6 @@ returns-clause-run g c =
     let low = c.requires.between.1.low in
     let t = c.loop-test.false in
     let e : c.loop.counter ≡ length c.args.order.now = omega arith in
-    underway_run (hunt_of (g.met.E.Expand.lawful c.args.problem.now) g.met.E.Key.Ord.total g.met.E.Key.TableKey.same g.met.E.Key.Eq.laws.refl) g.E.Key.TableKey.shelf_of (λ x. g.met.E.Key.TableKey.low x) c.args.order.now c.args.first c.loop.round.core c.loop.work.rows.items c.args.parts c.loop.work.parts c.args.limit
-    (subst (λ n. IsUnderway (g.E.Expand.hunted c.args.problem.now) g.E.Expand.reading g.E.Key.PartialEq.eq g.E.Key.TableKey.shelf_of c.args.order.now c.args.first n c.loop.round.core c.loop.work.rows.items c.args.parts c.loop.work.parts c.args.limit) e u)
+    underway_run (hunt_of (g.met.E.Expand.lawful c.args.terms.now.problem.now) g.met.E.Key.Ord.total g.met.E.Key.TableKey.same g.met.E.Key.Eq.laws.refl) g.E.Key.TableKey.shelf_of (λ x. g.met.E.Key.TableKey.low x) c.args.order.now c.args.first c.loop.round.core c.loop.work.rows.items c.args.parts c.loop.work.parts c.args.terms.now.limit
+    (subst (λ n. IsUnderway (g.E.Expand.hunted c.args.terms.now.problem.now) g.E.Expand.reading g.E.Key.PartialEq.eq g.E.Key.TableKey.shelf_of c.args.order.now c.args.first n c.loop.round.core c.loop.work.rows.items c.args.parts c.loop.work.parts c.args.terms.now.limit) e u)
     (map (λ v. v.items) c.in-Ok-close.shelves.items) (sym c.in-Ok-close.ensures)

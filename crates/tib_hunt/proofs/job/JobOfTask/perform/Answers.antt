@@ -7,7 +7,7 @@ use Rattle.tib_hunt.proofs.job.JobOfTask.perform.Goals as goal
 
 pub returns-clause-given : goal.returns-clause-given
 returns-clause-given g c =
-    let p = g.E.Expand.hunted c.args.self.now.problem.now in
+    let p = g.E.Expand.hunted c.args.self.now.terms.now.problem.now in
     let n = c.args.self.now.first + c.args.item in (
       c.in-Ok.edges.ends.items,
       subst (λ order. AreListed (p.edge order n) p.edge_parts g.E.Expand.reading.places g.E.Expand.reading.read_places order c.in-Ok.edges.ends.items c.in-Ok.edges.rules.items c.in-Ok.edges.parts) c.as_slice-order.ensures.keys c.in-Ok.ensures.listed,
