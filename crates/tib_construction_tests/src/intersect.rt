@@ -134,7 +134,7 @@ fn agrees<S: Semiring>(alloc: Global, pairs: &Pairs<S>, case: &Case) -> bool {
     if *second >= pairs.right.grammar().states() || *budget > 20_000_000 {
         return false;
     }
-    let answer = pairs.expand(alloc, &[StatePair::new(*first, *second)], 0, *budget);
+    let answer = pairs.expand(alloc, &[StatePair::new(*first, *second)], &(), 0, *budget);
     is_wanted(&answer, wanted)
 }
 

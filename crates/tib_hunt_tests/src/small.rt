@@ -53,6 +53,8 @@ impl Expand for Sevens {
 
     type Rule = u32;
 
+    type Index = ();
+
     type Origin = u32;
 
     type Edge = Node;
@@ -62,6 +64,8 @@ impl Expand for Sevens {
         (key_parts ⟦<Node as TableKey>⟧.entries_of) (λ _. 1) };
 
     ghost admits = { λ _ _. Unit {0} };
+
+    ghost indexes = { λ _ _ _. Unit {0} };
 
     ghost reading = { record {
       places = λ r. r ∷ [];
@@ -82,10 +86,25 @@ impl Expand for Sevens {
         })
     }
 
+    fn begin_index(&self, _alloc: Global) -> Result<(), AllocError> {
+        Ok(())
+    }
+
+    fn extend_index(
+        &self,
+        _alloc: Global,
+        _index: &mut (),
+        _order: &[Node],
+        _from: u32,
+    ) -> Result<(), AllocError> {
+        Ok(())
+    }
+
     fn expand(
         &self,
         alloc: Global,
         order: &[Node],
+        _index: &(),
         n: u32,
         budget: u64,
     ) -> Result<Edges<Node, Place>, ExpandError> {
@@ -252,6 +271,8 @@ impl Expand for Fans {
 
     type Rule = (u32, u32);
 
+    type Index = ();
+
     type Origin = u32;
 
     type Edge = (Node, Node);
@@ -261,6 +282,8 @@ impl Expand for Fans {
         (key_parts ⟦<Node as TableKey>⟧.entries_of) (λ _. 1) };
 
     ghost admits = { λ _ _. Unit {0} };
+
+    ghost indexes = { λ _ _ _. Unit {0} };
 
     ghost reading = { record {
       places = λ r. r.0 ∷ r.1 ∷ [];
@@ -285,10 +308,25 @@ impl Expand for Fans {
         })
     }
 
+    fn begin_index(&self, _alloc: Global) -> Result<(), AllocError> {
+        Ok(())
+    }
+
+    fn extend_index(
+        &self,
+        _alloc: Global,
+        _index: &mut (),
+        _order: &[Node],
+        _from: u32,
+    ) -> Result<(), AllocError> {
+        Ok(())
+    }
+
     fn expand(
         &self,
         alloc: Global,
         order: &[Node],
+        _index: &(),
         n: u32,
         budget: u64,
     ) -> Result<Edges<Node, (Place, Place)>, ExpandError> {

@@ -19,7 +19,7 @@ use tib_hunt::{hunt, hunt_alone};
 /// An operation whose seed is the node 0, and of which each position n below the length has one
 /// edge, to the nodes `times` * n + 1 and `times` * n + 2. So the order is that of all numbers; at
 /// `times` 1 each round but the first has two items, and at 2 it has twice as many as the one
-/// before.
+/// before. Its index is the number of keys of the order.
 #[derive(Drop)]
 struct Strands {
     times: u32,
@@ -28,7 +28,7 @@ struct Strands {
 }
 
 impl Expand for Strands {
-    ghost use Rattle.std.specs.Prelude.{◌≡◌, ◌<◌, ◌+◌, ◌*◌, [], ◌∷◌, refl};
+    ghost use Rattle.std.specs.Prelude.{◌≡◌, ◌<◌, ◌+◌, ◌*◌, [], ◌∷◌, length, refl};
     ghost use Rattle.tib_expand.specs.Keys.{key_parts};
     ghost use Rattle.tib_expand.specs.Reached.{exploration};
 
@@ -37,6 +37,8 @@ impl Expand for Strands {
     type Over = (Place, Place);
 
     type Rule = (u32, u32);
+
+    type Index = u32;
 
     type Origin = u32;
 
@@ -48,6 +50,8 @@ impl Expand for Strands {
         (key_parts ⟦<Node as TableKey>⟧.entries_of) (λ _. 1) };
 
     ghost admits = { λ _ _. Unit {0} };
+
+    ghost indexes = { λ _ order index. index ≡ length order };
 
     ghost reading = { record {
       places = λ r. r.0 ∷ r.1 ∷ [];
@@ -72,14 +76,33 @@ impl Expand for Strands {
         })
     }
 
+    fn begin_index(&self, _alloc: Global) -> Result<u32, AllocError> {
+        Ok(0)
+    }
+
+    fn extend_index(
+        &self,
+        _alloc: Global,
+        index: &mut u32,
+        order: &[Node],
+        from: u32,
+    ) -> Result<(), AllocError> {
+        let counted = *index == from;
+        prove!(counted);
+        *index += (order.len() - from as usize) as u32;
+        Ok(())
+    }
+
     fn expand(
         &self,
         alloc: Global,
         order: &[Node],
+        index: &u32,
         n: u32,
         budget: u64,
     ) -> Result<Edges<Node, (Place, Place)>, ExpandError> {
-        let _position = &order[n as usize];
+        let counted = *index as usize == order.len();
+        prove!(counted);
         if n >= self.length {
             return Ok(Edges {
                 ends: Vec::new(alloc),

@@ -190,6 +190,8 @@ impl<'a> Expand for Meeting<'a> {
 
     type Rule = u32;
 
+    type Index = ();
+
     type Origin = u32;
 
     type Edge = u32;
@@ -198,6 +200,8 @@ impl<'a> Expand for Meeting<'a> {
         (λ e. if nat_eq e 0 then 2 ∷ [] else []) (key_parts (λ _. 0)) (λ _. 1) };
 
     ghost admits = { λ _ _. Unit {0} };
+
+    ghost indexes = { λ _ _ _. Unit {0} };
 
     ghost reading = { record {
       places = λ _. [];
@@ -229,10 +233,25 @@ impl<'a> Expand for Meeting<'a> {
         })
     }
 
+    fn begin_index(&self, _alloc: Global) -> Result<(), AllocError> {
+        Ok(())
+    }
+
+    fn extend_index(
+        &self,
+        _alloc: Global,
+        _index: &mut (),
+        _order: &[Flagged<'a>],
+        _from: u32,
+    ) -> Result<(), AllocError> {
+        Ok(())
+    }
+
     fn expand(
         &self,
         alloc: Global,
         order: &[Flagged<'a>],
+        _index: &(),
         n: u32,
         budget: u64,
     ) -> Result<Edges<Flagged<'a>, u32>, ExpandError> {
