@@ -10,7 +10,7 @@ ghost use Rattle.tib_hunt.specs.Known.{AreOn};
 ghost use Rattle.tib_hunt.specs.Shelved.{placed_row};
 
 use crate::lookups::Ruled;
-use crate::placing::place_rows;
+use crate::placing::{EndPositions, place_rows};
 use std::alloc::{AllocError, Global};
 use std::mem::replace;
 use std::thread::{Threads, join};
@@ -38,9 +38,7 @@ fn place_halves<E: Expand + Sync, R: Threads + Sync>(
     alloc: Global,
     problem: &E,
     rows: Vec<Row<Ruled<E::Over>>>,
-    positions: &[Vec<u32>],
-    first: u32,
-    moved: &[u32],
+    positions: &EndPositions<'_>,
     rules: Vec<E::Rule>,
     times: u32,
 ) -> Result<Vec<E::Rule>, AllocError>
@@ -49,14 +47,16 @@ where
     E::Over: Send,
     E::Rule: Send,
     E::Index: Send,
-    requires { MayBePlaced E.reading (map (λ v. v.items) positions.now) first moved.now rows.items }
-    ensures { IfOk result (λ r. AddsRules E.reading (map (λ v. v.items) positions.now) first
-        moved.now rules.items rows.items r.items) }
+    requires { MayBePlaced E.reading (map (λ v. v.items) positions.now.on_shelves.now)
+        positions.now.first positions.now.moved.now rows.items }
+    ensures { IfOk result (λ r. AddsRules E.reading (map (λ v. v.items)
+        positions.now.on_shelves.now) positions.now.first positions.now.moved.now rules.items
+        rows.items r.items) }
 {
     let mut rules = rules;
     rules.reserve(count_rules(&rows))?;
     if times == 0 || rows.len() < LEAST_PIECE {
-        place_rows(alloc, problem, rows, positions, first, moved, &mut rules)?;
+        place_rows(alloc, problem, rows, positions, &mut rules)?;
         return Ok(rules);
     }
     let mut front = rows;
@@ -64,41 +64,23 @@ where
     let of_front = move || -> Result<Vec<E::Rule>, AllocError>
         requires { IsSend E.Key.row × IsSend E.Over.row × IsSend E.Rule.row × IsSend E.Index.row ×
             IsSync R.row × IsSync E.row × IsSync E.Key.row × (0 < times) × MayBePlaced E.reading
-            (map (λ v. v.items) positions.now) first moved.now front.items }
-        ensures { IfOk result (λ r. AddsRules E.reading (map (λ v. v.items) positions.entry.now)
-            first moved.entry.now rules.items front.items r.items) }
-    {
-        place_halves(
-            rt,
-            alloc,
-            problem,
-            front,
-            positions,
-            first,
-            moved,
-            rules,
-            times - 1,
-        )
-    };
+            (map (λ v. v.items) positions.now.on_shelves.now) positions.now.first
+            positions.now.moved.now front.items }
+        ensures { IfOk result (λ r. AddsRules E.reading (map (λ v. v.items)
+            positions.entry.now.on_shelves.now) positions.entry.now.first
+            positions.entry.now.moved.now rules.items front.items r.items) }
+    { place_halves(rt, alloc, problem, front, positions, rules, times - 1) };
     let of_back = move || -> Result<Vec<E::Rule>, AllocError>
         requires { IsSend E.Key.row × IsSend E.Over.row × IsSend E.Rule.row × IsSend E.Index.row ×
             IsSync R.row × IsSync E.row × IsSync E.Key.row × (0 < times) × MayBePlaced E.reading
-            (map (λ v. v.items) positions.now) first moved.now back.items }
-        ensures { IfOk result (λ r. AddsRules E.reading (map (λ v. v.items) positions.entry.now)
-            first moved.entry.now [] back.items r.items) }
+            (map (λ v. v.items) positions.now.on_shelves.now) positions.now.first
+            positions.now.moved.now back.items }
+        ensures { IfOk result (λ r. AddsRules E.reading (map (λ v. v.items)
+            positions.entry.now.on_shelves.now) positions.entry.now.first
+            positions.entry.now.moved.now [] back.items r.items) }
     {
         let none = Vec::new(alloc);
-        place_halves(
-            rt,
-            alloc,
-            problem,
-            back,
-            positions,
-            first,
-            moved,
-            none,
-            times - 1,
-        )
+        place_halves(rt, alloc, problem, back, positions, none, times - 1)
     };
     let (of_first, of_second) = join(rt, of_front, of_back);
     let mut all = of_first?;
@@ -116,9 +98,7 @@ pub(crate) fn place_together<E: Expand + Sync, R: Threads + Sync>(
     alloc: Global,
     problem: &E,
     rows: Vec<Row<Ruled<E::Over>>>,
-    positions: &[Vec<u32>],
-    first: u32,
-    moved: &[u32],
+    positions: &EndPositions<'_>,
     rules: &mut Vec<E::Rule>,
     times: u32,
 ) -> Result<(), AllocError>
@@ -127,21 +107,21 @@ where
     E::Over: Send,
     E::Rule: Send,
     E::Index: Send,
-    requires on { Each (λ row. AreOn (map (λ v. v.items) positions.now) row.rules.at row.ends.items)
-        rows.items }
-    requires below { Each (IsRowBelow E.reading.places first (first + length moved.now))
-        (map (placed_row (map (λ v. v.items) positions.now)) rows.items) }
-    ensures read { OnOk result (ReadAs E.reading first moved.now rules.old.items
-        (map (placed_row (map (λ v. v.items) positions.now)) rows.items) rules.new.items) }
-    ensures below { OnOk result (StayBelow E.reading first moved.now rules.old.items
-        rules.new.items) }
+    requires on { Each (λ row. AreOn (map (λ v. v.items) positions.now.on_shelves.now) row.rules.at
+        row.ends.items) rows.items }
+    requires below { Each (IsRowBelow E.reading.places positions.now.first (positions.now.first +
+        length positions.now.moved.now)) (map (placed_row (map (λ v. v.items)
+        positions.now.on_shelves.now)) rows.items) }
+    ensures read { OnOk result (ReadAs E.reading positions.now.first positions.now.moved.now
+        rules.old.items (map (placed_row (map (λ v. v.items) positions.now.on_shelves.now))
+        rows.items) rules.new.items) }
+    ensures below { OnOk result (StayBelow E.reading positions.now.first positions.now.moved.now
+        rules.old.items rules.new.items) }
 {
     if times == 0 || rows.len() < LEAST_PIECE {
-        return place_rows(alloc, problem, rows, positions, first, moved, rules);
+        return place_rows(alloc, problem, rows, positions, rules);
     }
     let old = replace(rules, Vec::new(alloc));
-    *rules = place_halves(
-        rt, alloc, problem, rows, positions, first, moved, old, times,
-    )?;
+    *rules = place_halves(rt, alloc, problem, rows, positions, old, times)?;
     Ok(())
 }

@@ -9,7 +9,7 @@ ghost use Rattle.tib_hunt.specs.Rows.{IsRowBelow};
 ghost use Rattle.tib_hunt.specs.States.{AreSettled, IsBetweenRounds, AppendsOutcome, WorksRound, HavePositions, LacksAll, rows_in};
 
 use crate::dividing::place_together;
-use crate::placing::place_rows;
+use crate::placing::{EndPositions, place_rows};
 use crate::shelved_round::Worked;
 use crate::state::{HuntState, TakenIn};
 use crate::terms::Terms;
@@ -44,15 +44,12 @@ impl<E: Expand> HuntState<E> {
         } = taken;
         let first = self.keys.len() as u32;
         let moved = put_fresh(alloc, &mut self.keys, fresh)?;
-        place_rows(
-            alloc,
-            problem,
-            rows,
-            &positions,
+        let ends = EndPositions {
+            on_shelves: &positions,
             first,
-            &moved,
-            &mut self.rules,
-        )?;
+            moved: &moved,
+        };
+        place_rows(alloc, problem, rows, &ends, &mut self.rules)?;
         self.rows = Vec::new(alloc);
         Ok(())
     }
@@ -90,17 +87,12 @@ impl<E: Expand> HuntState<E> {
         } = taken;
         let first = self.keys.len() as u32;
         let moved = put_fresh_together(rt, alloc, times, &mut self.keys, fresh)?;
-        place_together(
-            rt,
-            alloc,
-            problem,
-            rows,
-            &positions,
+        let ends = EndPositions {
+            on_shelves: &positions,
             first,
-            &moved,
-            &mut self.rules,
-            times,
-        )?;
+            moved: &moved,
+        };
+        place_together(rt, alloc, problem, rows, &ends, &mut self.rules, times)?;
         self.rows = Vec::new(alloc);
         Ok(())
     }

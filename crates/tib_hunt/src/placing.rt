@@ -15,6 +15,15 @@ use tib_expand::Expand;
 use tib_table::Number;
 use tib_workers::Row;
 
+/// Where the ends of a round's rows are: the positions of the keys on each shelf, as they were
+/// before those from `first` on were moved, and where each of these was moved.
+#[derive(Drop)]
+pub(crate) struct EndPositions<'a> {
+    pub on_shelves: &'a [Vec<u32>],
+    pub first: u32,
+    pub moved: &'a [u32],
+}
+
 // The position of a number on a shelf.
 fn place_end(number: Number, positions: &[Vec<u32>]) -> u32
     requires { IsOn (map (λ v. v.items) positions.now) number }
@@ -104,50 +113,56 @@ fn place_row<E: Expand>(
     alloc: Global,
     problem: &E,
     row: &Row<Ruled<E::Over>>,
-    positions: &[Vec<u32>],
-    first: u32,
-    moved: &[u32],
+    positions: &EndPositions<'_>,
     ends: &mut Vec<u32>,
     rules: &mut Vec<E::Rule>,
 ) -> Result<(), AllocError>
-    requires on { AreOn (map (λ v. v.items) positions.now) row.now.rules.at row.now.ends.items }
-    requires below { IsRowBelow E.reading.places first (first + length moved.now)
-        (placed_row (map (λ v. v.items) positions.now) row.now) }
-    ensures read { OnOk result (ReadsRow E.reading first moved.now rules.old.items
-        (placed_row (map (λ v. v.items) positions.now) row.now) rules.new.items) }
-    ensures below { OnOk result (StayBelow E.reading first moved.now rules.old.items
+    requires on { AreOn (map (λ v. v.items) positions.now.on_shelves.now) row.now.rules.at
+        row.now.ends.items }
+    requires below { IsRowBelow E.reading.places positions.now.first (positions.now.first + length
+        positions.now.moved.now) (placed_row (map (λ v. v.items) positions.now.on_shelves.now)
+        row.now) }
+    ensures read { OnOk result (ReadsRow E.reading positions.now.first positions.now.moved.now
+        rules.old.items (placed_row (map (λ v. v.items) positions.now.on_shelves.now) row.now)
         rules.new.items) }
+    ensures below { OnOk result (StayBelow E.reading positions.now.first positions.now.moved.now
+        rules.old.items rules.new.items) }
 {
-    place_all(&row.rules.at, &row.ends, positions, first, moved, ends)?;
+    place_all(
+        &row.rules.at,
+        &row.ends,
+        positions.on_shelves,
+        positions.first,
+        positions.moved,
+        ends,
+    )?;
     settle_rules(alloc, problem, &row.rules.rules, ends, rules)
 }
 
 /// Settles the rules of all rows, and appends them to the rules. Each end of the rows is in the
-/// order or has a number on a shelf, whose position is given as it was before those from `first` on
-/// were moved. Each row is dropped as soon as it is settled. Err if memory is refused.
+/// order or has a number on a shelf. Each row is dropped as soon as it is settled. Err if memory is
+/// refused.
 pub(crate) fn place_rows<E: Expand>(
     alloc: Global,
     problem: &E,
     rows: Vec<Row<Ruled<E::Over>>>,
-    positions: &[Vec<u32>],
-    first: u32,
-    moved: &[u32],
+    positions: &EndPositions<'_>,
     rules: &mut Vec<E::Rule>,
 ) -> Result<(), AllocError>
-    requires on { Each (λ row. AreOn (map (λ v. v.items) positions.now) row.rules.at row.ends.items)
-        rows.items }
-    requires below { Each (IsRowBelow E.reading.places first (first + length moved.now))
-        (map (placed_row (map (λ v. v.items) positions.now)) rows.items) }
-    ensures read { OnOk result (ReadAs E.reading first moved.now rules.old.items
-        (map (placed_row (map (λ v. v.items) positions.now)) rows.items) rules.new.items) }
-    ensures below { OnOk result (StayBelow E.reading first moved.now rules.old.items
-        rules.new.items) }
+    requires on { Each (λ row. AreOn (map (λ v. v.items) positions.now.on_shelves.now) row.rules.at
+        row.ends.items) rows.items }
+    requires below { Each (IsRowBelow E.reading.places positions.now.first (positions.now.first +
+        length positions.now.moved.now)) (map (placed_row (map (λ v. v.items)
+        positions.now.on_shelves.now)) rows.items) }
+    ensures read { OnOk result (ReadAs E.reading positions.now.first positions.now.moved.now
+        rules.old.items (map (placed_row (map (λ v. v.items) positions.now.on_shelves.now))
+        rows.items) rules.new.items) }
+    ensures below { OnOk result (StayBelow E.reading positions.now.first positions.now.moved.now
+        rules.old.items rules.new.items) }
 {
     let mut ends = Vec::new(alloc);
     for row in rows {
-        place_row(
-            alloc, problem, &row, positions, first, moved, &mut ends, rules,
-        )?;
+        place_row(alloc, problem, &row, positions, &mut ends, rules)?;
     }
     Ok(())
 }

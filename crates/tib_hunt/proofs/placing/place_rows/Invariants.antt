@@ -9,4 +9,4 @@ use Rattle.tib_hunt.proofs.placing.place_rows.Given as goal
 abbrev pub invariant-loop-row : goal.invariant-loop-row
 invariant-loop-row g l =
     (l.fn.rows.items ≡ l.yielded ++ into_iter_items l.row-iterator)
-    × Settled g.E.Expand.reading l.first l.moved l.fn.rules.items l.rules.items (λ at. read_rows g.E.Expand.reading.read_places (λ n. at (moved_to l.first l.moved n)) (map (placed_row (map (λ v. v.items) l.positions)) l.yielded))
+    × Settled g.E.Expand.reading l.positions.first l.positions.moved.now l.fn.rules.items l.rules.items (λ at. read_rows g.E.Expand.reading.read_places (λ n. at (moved_to l.positions.first l.positions.moved.now n)) (map (placed_row (map (λ v. v.items) l.positions.on_shelves.now)) l.yielded))
