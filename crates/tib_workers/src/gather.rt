@@ -1,16 +1,16 @@
 //! All items of a task, performed by workers and then by the caller: their rows in order, and the
 //! shelves with their ends.
 
-ghost use Rattle.std.specs.Prelude.{◌≡◌, ◌≤◌, ◌<◌, ◌+◌, ◌^◌, ◌++◌, ◌⊎◌, ℕ, List, [], ◌∷◌, length, slice_set, slice_index_or, None, Some, Option, IfOk, IfErr, IfSome, OnOk, IsTrue, replicate};
+ghost use Rattle.std.specs.Prelude.{◌≡◌, ◌≤◌, ◌<◌, ◌+◌, ◌-◌, ◌*◌, ◌^◌, ◌++◌, ◌⊎◌, ℕ, List, [], ◌∷◌, length, slice_set, slice_index_or, None, Some, Option, IfOk, IfErr, IfSome, OnOk, IsTrue, replicate};
 ghost use Rattle.std.specs.List.{All};
 ghost use Rattle.tib_table.specs.Known.{GoOn, AreShelves};
-ghost use Rattle.tib_workers.specs.Hands.{Holds};
+ghost use Rattle.tib_workers.specs.Hands.{Holds, MaySplit};
 ghost use Rattle.tib_workers.specs.Rows.{IsRowOf, AreRowsFrom, AreSlots, HoldWhatRowsHold, IsPutIn, IsTaken, parts_in, parts_of_slots, LeaveTooLittle};
 ghost use Rattle.tib_lex.specs.Limits.{most_parts};
 
 use crate::crew::crew;
 use crate::hand::Hand;
-use crate::items::{Items, Seat};
+use crate::items::Items;
 use crate::row::{Row, make_row};
 use crate::task::{Task, Unperformed};
 use std::alloc::{AllocError, Global};
@@ -79,30 +79,37 @@ fn put_rows<P: Task + Copy>(
     Ok((slots, used))
 }
 
-// The item's row, or a row that is made now.
+// An item, and the row that it has.
+#[derive(Drop)]
+struct Slot<R> {
+    item: u32,
+    row: Option<Row<R>>,
+}
+
+// The row of a slot, or a row that is made now.
 fn settle_slot<P: Task + Copy, R: Wait>(
     rt: &R,
     alloc: Global,
     task: P,
     table: &Table<P>,
     seats: &mut Seats<P>,
-    slot: Option<Row<P::Rules>>,
-    item: u32,
+    slot: Slot<P::Rules>,
     left: &mut u64,
 ) -> Result<Row<P::Rules>, Unperformed>
     requires table { seats.old.table ≡ table.now }
     requires about { table.now.about ≡ P.about task }
-    requires item { item < P.count_of (P.about task) }
+    requires item { slot.item < P.count_of (P.about task) }
     requires ready { P.is_ready (P.about task) }
     requires left { left.old ≤ most_parts }
     ensures table { seats.new.table ≡ table.now }
     ensures more { GoOn seats.old.known seats.new.known }
-    ensures taken { IfOk result (λ r. IsTaken P.gives P.count_of (P.about task) seats.new.known slot
-        item r left.old left.new) }
-    ensures exceeds { IfErr result (λ e. e ≡ Unperformed.More → (slot ≡ None)
-        × P.exceeds (P.about task) item left.old) }
+    ensures taken { IfOk result (λ r. IsTaken P.gives P.count_of (P.about task) seats.new.known
+        slot.row slot.item r left.old left.new) }
+    ensures exceeds { IfErr result (λ e. e ≡ Unperformed.More → (slot.row ≡ None)
+        × P.exceeds (P.about task) slot.item left.old) }
 {
-    if let Some(row) = slot {
+    let Slot { item, row } = slot;
+    if let Some(row) = row {
         return Ok(row);
     }
     let row = match make_row(rt, alloc, task, table, seats, item, *left) {
@@ -145,8 +152,9 @@ fn settle_slots<P: Task + Copy, R: Wait>(
     let Ok(mut rows) = Vec::with_capacity(alloc, slots.len()) else {
         return Err(Unperformed::OutOfMemory);
     };
-    for slot in slots {
-        let row = match settle_slot(rt, alloc, task, table, seats, slot, item, &mut left) {
+    for row in slots {
+        let slot = Slot { item, row };
+        let row = match settle_slot(rt, alloc, task, table, seats, slot, &mut left) {
             Ok(row) => row,
             Err(error) => return Err(error),
         };
@@ -170,43 +178,28 @@ fn at_work(workers: u32, count: u32) -> u32
     if count == 0 { 1 } else { count }
 }
 
-// The rows that workers made, within the room. Items that no worker drew are drawn.
+// The rows that workers made, each within its share, the first one with this hand. Items that no
+// worker drew are drawn.
 fn take_hand<P: Task + Copy + Send + Sync, R: Threads + Wait + Sync>(
     rt: &R,
     alloc: Global,
     task: P,
     workers: u32,
-    room: u64,
     items: &Items,
     table: &Table<P>,
-    seat: Seat,
-    seats: Seats<P>,
+    hand: Hand<P>,
 ) -> Result<(Vec<Row<P::Rules>>, Seats<P>), AllocError>
 where
     P::Key: Send + Sync,
     P::Rules: Send,
-    requires seat { seat ≡ record { counter = items.now; shares = 2 ^ 31; nones = 0; drawn = [] } }
-    requires seats { seats.table ≡ table.now }
-    requires about { table.now.about ≡ P.about task }
-    requires ready { P.is_ready (P.about task) }
-    requires count { (items.now.count ≡ P.count_of (P.about task)) × (items.now.count < 2 ^ 32) }
-    requires workers { (1 ≤ workers) × (workers ≤ 16) }
-    requires room { room ≤ most_parts }
+    requires hand { Holds P.gives P.count_of P.is_ready (P.about task) table.now items.now hand }
+    requires some { 1 ≤ workers }
+    requires others { MaySplit (workers - 1) hand.seat.shares hand.share items.now.count hand.going }
     ensures table { IfOk result (λ r. r.1.table ≡ table.now) }
     ensures rows { IfOk result (λ r. All (IsRowOf P.gives P.count_of (P.about task) r.1.known)
         r.0.items) }
-    ensures within { IfOk result (λ r. parts_in r.0.items ≤ room) }
+    ensures within { IfOk result (λ r. parts_in r.0.items ≤ hand.share * workers) }
 {
-    let share = room / workers as u64;
-    let hand = Hand {
-        worker: 0,
-        share,
-        rows: Vec::new(alloc),
-        left: share,
-        going: true,
-        seat,
-        seats,
-    };
     let hand = crew(rt, alloc, task, items, table, workers - 1, hand)?;
     let Hand {
         worker: _,
@@ -258,8 +251,17 @@ where
         return Err(Unperformed::OutOfMemory);
     };
     let workers = at_work(workers, count);
-    let Ok((rows, seats)) = take_hand(rt, alloc, task, workers, room, &items, &table, seat, seats)
-    else {
+    let share = room / workers as u64;
+    let hand = Hand {
+        worker: 0,
+        share,
+        rows: Vec::new(alloc),
+        left: share,
+        going: true,
+        seat,
+        seats,
+    };
+    let Ok((rows, seats)) = take_hand(rt, alloc, task, workers, &items, &table, hand) else {
         return Err(Unperformed::OutOfMemory);
     };
     let Ok((slots, used)) = put_rows(alloc, task, count, rows) else {
