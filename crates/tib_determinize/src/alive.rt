@@ -11,10 +11,10 @@ ghost use Rattle.tib_determinize.specs.Vectors.{Rises};
 
 use crate::occurrences::Occurrence;
 use crate::vector::Vector;
+use crate::walk::Walk;
 use std::alloc::{AllocError, Global};
 use tib_cost::{Cost, Semiring};
 use tib_grammar::Rule;
-use tib_tree::Label;
 
 /// A rule whose states after a place are in the vectors there, with the product of their residuals.
 #[derive(Drop)]
@@ -57,41 +57,42 @@ fn residual_at(rules: &[Rule<u32>], place: usize, vector: &Vector, rule: u32) ->
     vector.residual_ascending(state_at(rules, place, rule))
 }
 
-// Whether a place is this one, of a rule that has a label and a rank.
-fn is_place_of(rules: &[Rule<u32>], label: Label, rank: u32, place: u32, one: &Occurrence) -> bool
-    requires normal { AreNormal rules.now }
-    ensures sound { IsTrue result → IsBegun rules.now label rank (fresh one.now.rule) }
-    ensures whole { one.now.place ≡ place → IsBegun rules.now label rank (fresh one.now.rule) →
-        IsTrue result }
+// Whether a place is the last one of a walk, of a rule that has its label and its rank.
+fn is_last_place(walk: &Walk<'_>, one: &Occurrence) -> bool
+    requires normal { AreNormal walk.now.rules.now }
+    ensures sound { IsTrue result → IsBegun walk.now.rules.now walk.now.label walk.now.rank
+        (fresh one.now.rule) }
+    ensures whole { one.now.place ≡ walk.now.last → IsBegun walk.now.rules.now walk.now.label
+        walk.now.rank (fresh one.now.rule) → IsTrue result }
 {
-    if one.place != place {
+    if one.place != walk.last {
         return false;
     }
+    let rules = walk.rules;
     if one.rule as usize >= rules.len() {
         return false;
     }
     let (own, many) = rules[one.rule as usize].root();
-    own == label && many == rank
+    let label = walk.label;
+    own == label && many == walk.rank
 }
 
-/// Of some places of rules the rules of a label and a rank whose place is this one, each with the
-/// product of nothing.
+/// Of some places of rules the rules of a walk's label and rank whose place is its last one, each
+/// with the product of nothing.
 pub(crate) fn begin_at<S: Semiring>(
     alloc: Global,
-    rules: &[Rule<u32>],
-    label: Label,
-    rank: u32,
-    place: u32,
+    walk: &Walk<'_>,
     places: &[Occurrence],
 ) -> Result<Vec<Alive>, AllocError>
-    requires normal { AreNormal rules.now }
-    ensures sound { IfOk result (λ alive. Each (IsBegun rules.now label rank) alive.items) }
-    ensures whole { IfOk result (λ alive. BeginAll rules.now label rank place places.now
-        alive.items) }
+    requires normal { AreNormal walk.now.rules.now }
+    ensures sound { IfOk result (λ alive. Each (IsBegun walk.now.rules.now walk.now.label
+        walk.now.rank) alive.items) }
+    ensures whole { IfOk result (λ alive. BeginAll walk.now.rules.now walk.now.label walk.now.rank
+        walk.now.last places.now alive.items) }
 {
     let mut alive = Vec::with_capacity(alloc, places.len())?;
     for one in places {
-        if is_place_of(rules, label, rank, place, one) {
+        if is_last_place(walk, one) {
             alive.push(Alive {
                 rule: one.rule,
                 weight: S::one(),

@@ -74,57 +74,45 @@ impl<'a, S: Semiring> Residuals<'a, S> {
     }
 }
 
-impl<'a, S: Semiring> Residuals<'a, S> {
-    // Lists the edges of a label and a rank at a position, for each place at which the position is
-    // last.
-    fn list_shape(
-        &self,
-        alloc: Global,
-        order: &[Vector],
-        position: u32,
-        shape: (Label, u32),
-        places: &[Occurrence],
-        holders: Option<&Holders>,
-        listing: &mut VectorListing,
-    ) -> Result<(), ExpandError>
-        requires standing { HaveStanding self.now.normal.now.rules self.now.occurrences.many shape.0
-            shape.1 (vector_at order.now position) places.now }
-        requires holders { IfSome holders (λ h. HoldAll order.now (position + 1)
-            h.now.lists.items) }
-        requires rise { Each (λ v. Rises v) order.now }
-        requires position { position < length order.now }
-        requires within { IsWithinBudget listing.old }
-        ensures added { OnOk result (AddsSteps S.product self.now.normal.now.rules order.now
-            (behind_label shape.0 (by_last position shape.1 0 shape.1)) listing.old listing.new) }
-        ensures more { result ≡ Err ExpandError.More → StepsOverrun S.product
-            self.now.normal.now.rules order.now (behind_label shape.0
-            (by_last position shape.1 0 shape.1)) listing.old }
-        ensures within { OnOk result (IsWithinBudget listing.new) }
-        ensures budget { listing.new.budget ≡ listing.old.budget }
-    {
-        let (label, rank) = shape;
-        let normal = self.normal;
-        let rules = normal.grammar().rule_list();
-        for last in 0..rank {
-            let Ok(alive) = begin_at::<S>(alloc, rules, label, rank, last, places) else {
-                return Err(ExpandError::OutOfMemory);
-            };
-            let walk = Walk {
-                rules,
-                order,
-                label,
-                rank,
-                position,
-                last,
-            };
-            match list_all::<S>(alloc, &walk, holders, alive, listing) {
-                Ok(()) => {}
-                Err(fault) => return Err(fault),
-            }
+// Lists the edges of the label and the rank of a walk at its position, for each place at which the
+// position is last.
+fn list_shape<S: Semiring>(
+    alloc: Global,
+    walk: &Walk<'_>,
+    places: &[Occurrence],
+    listing: &mut VectorListing,
+) -> Result<(), ExpandError>
+    requires normal { AreNormal walk.now.rules.now }
+    requires standing { (many : ℕ) × HaveStanding walk.now.rules.now many walk.now.label
+        walk.now.rank (vector_at walk.now.order.now walk.now.position) places.now }
+    requires holders { IfSome walk.now.holders (λ h. HoldAll walk.now.order.now
+        (walk.now.position + 1) h.now.lists.items) }
+    requires rise { Each (λ v. Rises v) walk.now.order.now }
+    requires position { walk.now.position < length walk.now.order.now }
+    requires within { IsWithinBudget listing.old }
+    ensures added { OnOk result (AddsSteps S.product walk.now.rules.now walk.now.order.now
+        (behind_label walk.now.label (by_last walk.now.position walk.now.rank 0 walk.now.rank))
+        listing.old listing.new) }
+    ensures more { result ≡ Err ExpandError.More → StepsOverrun S.product walk.now.rules.now
+        walk.now.order.now (behind_label walk.now.label
+        (by_last walk.now.position walk.now.rank 0 walk.now.rank)) listing.old }
+    ensures within { OnOk result (IsWithinBudget listing.new) }
+    ensures budget { listing.new.budget ≡ listing.old.budget }
+{
+    for last in 0..walk.rank {
+        let walk = Walk { last, ..*walk };
+        let Ok(alive) = begin_at::<S>(alloc, &walk, places) else {
+            return Err(ExpandError::OutOfMemory);
+        };
+        match list_all::<S>(alloc, &walk, alive, listing) {
+            Ok(()) => {}
+            Err(fault) => return Err(fault),
         }
-        Ok(())
     }
+    Ok(())
+}
 
+impl<'a, S: Semiring> Residuals<'a, S> {
     // The positions up to one by the states of their vectors, if its vector has a state of a rule
     // of more than one child.
     fn holders_up_to(
@@ -175,10 +163,10 @@ impl<'a, S: Semiring> Residuals<'a, S> {
         ensures within { IfOk result IsWithinBudget }
         ensures budget { IfOk result (λ l. l.budget ≡ budget) }
     {
+        let rules = self.normal.grammar().rule_list();
         let Ok(holders) = self.holders_up_to(alloc, order, position) else {
             return Err(ExpandError::OutOfMemory);
         };
-        let held = holders.as_ref();
         let vector = &order[position as usize];
         let Ok(found) = self.occurrences.standing(alloc, vector) else {
             return Err(ExpandError::OutOfMemory);
@@ -186,17 +174,18 @@ impl<'a, S: Semiring> Residuals<'a, S> {
         let mut listing = VectorListing::new(alloc, budget);
         let shapes: &[(Label, u32)] = &self.shapes;
         for i in 0..shapes.len() {
-            let shape = &shapes[i];
-            let places = self.occurrences.of_label(&found, shape.0);
-            match self.list_shape(
-                alloc,
+            let (label, rank) = shapes[i];
+            let places = self.occurrences.of_label(&found, label);
+            let walk = Walk {
+                rules,
                 order,
+                holders: holders.as_ref(),
+                label,
+                rank,
                 position,
-                (shape.0, shape.1),
-                places,
-                held,
-                &mut listing,
-            ) {
+                last: 0,
+            };
+            match list_shape::<S>(alloc, &walk, places, &mut listing) {
                 Ok(()) => {}
                 Err(fault) => return Err(fault),
             }
@@ -233,6 +222,7 @@ impl<'a, S: Semiring> Residuals<'a, S> {
         let walk = Walk {
             rules,
             order: &[],
+            holders: None,
             label,
             rank: 0,
             position: 0,

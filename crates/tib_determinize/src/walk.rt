@@ -26,11 +26,13 @@ use tib_grammar::Rule;
 use tib_tree::Label;
 
 /// What a walk goes over: the edges of a label over a number of vectors of an order, in which a
-/// position is last at the place `last`.
+/// position is last at the place `last`. The holders, if there are any, have the positions up to
+/// this one.
 #[derive(Clone, Copy)]
 pub(crate) struct Walk<'w> {
     pub rules: &'w [Rule<u32>],
     pub order: &'w [Vector],
+    pub holders: Option<&'w Holders>,
     pub label: Label,
     pub rank: u32,
     pub position: u32,
@@ -73,7 +75,6 @@ impl Level {
     pub fn new(
         alloc: Global,
         walk: &Walk<'_>,
-        holders: Option<&Holders>,
         place: u32,
         behind: Vec<u32>,
         alive: Vec<Alive>,
@@ -81,7 +82,8 @@ impl Level {
         requires position { walk.now.position < length walk.now.order.now }
         requires normal { AreNormal walk.now.rules.now }
         requires places { Each (HasPlace walk.now.rules.now place) alive.items }
-        requires holders { IfSome holders (λ h. HoldAll walk.now.order.now (walk.now.position + 1)
+        requires holders { IfSome walk.now.holders (λ h. HoldAll walk.now.order.now
+            (walk.now.position + 1)
             h.now.lists.items) }
         ensures place { IfOk result (λ l. l.place ≡ place) }
         ensures behind { IfOk result (λ l. l.behind ≡ behind) }
@@ -93,7 +95,7 @@ impl Level {
         ensures within { IfOk result (λ l. l.end ≤ length walk.now.order.now) }
         ensures fits { IfOk result (λ l. l.end ≤ 2 ^ 32) }
     {
-        let wanted = wanted_at(alloc, walk, holders, place, &alive)?;
+        let wanted = wanted_at(alloc, walk, place, &alive)?;
         let (next, end) = range_at(walk, place);
         Ok(Level {
             place,
@@ -179,7 +181,6 @@ pub(crate) fn list<S: Semiring>(
 fn visit<S: Semiring>(
     alloc: Global,
     walk: &Walk<'_>,
-    holders: Option<&Holders>,
     level: &Level,
     listing: &mut VectorListing,
 ) -> Result<Option<Level>, ExpandError>
@@ -189,7 +190,8 @@ fn visit<S: Semiring>(
     requires level { IsLevel S.product walk.now.rules.now walk.now.order.now walk.now.label
         walk.now.rank walk.now.position walk.now.last level.now }
     requires next { level.now.next < level.now.end }
-    requires holders { IfSome holders (λ h. HoldAll walk.now.order.now (walk.now.position + 1)
+    requires holders { IfSome walk.now.holders (λ h. HoldAll walk.now.order.now
+            (walk.now.position + 1)
         h.now.lists.items) }
     requires within { IsWithinBudget listing.old }
     ensures underway { IfOk result (λ below.
@@ -227,7 +229,7 @@ fn visit<S: Semiring>(
         }
         return Ok(None);
     }
-    match Level::new(alloc, walk, holders, level.place - 1, positions, alive) {
+    match Level::new(alloc, walk, level.place - 1, positions, alive) {
         Ok(below) => Ok(Some(below)),
         Err(_) => Err(ExpandError::OutOfMemory),
     }
@@ -271,7 +273,6 @@ fn push_levels(
 pub(crate) fn list_all<S: Semiring>(
     alloc: Global,
     walk: &Walk<'_>,
-    holders: Option<&Holders>,
     alive: Vec<Alive>,
     listing: &mut VectorListing,
 ) -> Result<(), ExpandError>
@@ -279,7 +280,8 @@ pub(crate) fn list_all<S: Semiring>(
     requires rise { Each (λ v. Rises v) walk.now.order.now }
     requires position { walk.now.position < length walk.now.order.now }
     requires rank { 1 ≤ walk.now.rank }
-    requires holders { IfSome holders (λ h. HoldAll walk.now.order.now (walk.now.position + 1)
+    requires holders { IfSome walk.now.holders (λ h. HoldAll walk.now.order.now
+            (walk.now.position + 1)
         h.now.lists.items) }
     requires alive { AreLeft S.product walk.now.rules.now walk.now.order.now walk.now.label
         walk.now.rank
@@ -300,7 +302,7 @@ pub(crate) fn list_all<S: Semiring>(
         return Ok(());
     }
     let mut levels = Vec::new(alloc);
-    let Ok(first) = Level::new(alloc, walk, holders, walk.rank - 1, Vec::new(alloc), alive) else {
+    let Ok(first) = Level::new(alloc, walk, walk.rank - 1, Vec::new(alloc), alive) else {
         return Err(ExpandError::OutOfMemory);
     };
     let Ok(()) = levels.push(first) else {
@@ -311,7 +313,7 @@ pub(crate) fn list_all<S: Semiring>(
         if level.next >= level.end {
             continue;
         }
-        let below = match visit::<S>(alloc, walk, holders, &level, listing) {
+        let below = match visit::<S>(alloc, walk, &level, listing) {
             Ok(below) => below,
             Err(fault) => return Err(fault),
         };

@@ -10,7 +10,6 @@ ghost use Rattle.tib_determinize.specs.Holders.{HoldAll};
 ghost use Rattle.tib_determinize.specs.Vectors.{vector_at};
 
 use crate::alive::{Alive, state_at};
-use crate::holders::Holders;
 use crate::walk::Walk;
 use std::alloc::{AllocError, Global};
 
@@ -67,18 +66,18 @@ fn add_below(wanted: &mut Vec<u32>, count: u64) -> Result<(), AllocError>
 }
 
 // Adds the positions at which a rule that is alive has its state at a place, of those that may be
-// there. They are taken from `holders`, which has the positions up to the walk's; without it all of
-// these are added.
+// there. They are taken from the walk's holders; where it has none, all positions up to its own are
+// added.
 fn add_wanted(
     walk: &Walk<'_>,
-    holders: Option<&Holders>,
     place: u32,
     one: &Alive,
     wanted: &mut Vec<u32>,
 ) -> Result<(), AllocError>
     requires normal { AreNormal walk.now.rules.now }
     requires place { HasPlace walk.now.rules.now place one.now }
-    requires holders { IfSome holders (λ h. HoldAll walk.now.order.now (walk.now.position + 1)
+    requires holders { IfSome walk.now.holders (λ h. HoldAll walk.now.order.now
+        (walk.now.position + 1)
         h.now.lists.items) }
     ensures more { OnOk result ((p : ℕ) → Has wanted.old.items p → Has wanted.new.items p) }
     ensures own { OnOk result ((p r : ℕ) → p ≤ walk.now.position →
@@ -93,7 +92,7 @@ fn add_wanted(
         wanted.push(walk.position)?;
         return Ok(());
     }
-    let Some(holders) = holders else {
+    let Some(holders) = walk.holders else {
         return add_below(wanted, walk.position as u64 + 1);
     };
     let state = state_at(walk.rules, place as usize, one.rule);
@@ -108,13 +107,13 @@ fn add_wanted(
 pub(crate) fn wanted_at(
     alloc: Global,
     walk: &Walk<'_>,
-    holders: Option<&Holders>,
     place: u32,
     alive: &[Alive],
 ) -> Result<Vec<u32>, AllocError>
     requires normal { AreNormal walk.now.rules.now }
     requires places { Each (HasPlace walk.now.rules.now place) alive.now }
-    requires holders { IfSome holders (λ h. HoldAll walk.now.order.now (walk.now.position + 1)
+    requires holders { IfSome walk.now.holders (λ h. HoldAll walk.now.order.now
+        (walk.now.position + 1)
         h.now.lists.items) }
     ensures wanted { IfOk result (λ w. HasWanted walk.now.rules.now walk.now.order.now
         walk.now.position walk.now.last place alive.now w.items) }
@@ -122,7 +121,7 @@ pub(crate) fn wanted_at(
 {
     let mut wanted = Vec::with_capacity(alloc, alive.len())?;
     for one in alive {
-        add_wanted(walk, holders, place, one, &mut wanted)?;
+        add_wanted(walk, place, one, &mut wanted)?;
     }
     wanted.sort_unstable();
     Ok(wanted)

@@ -5,6 +5,6 @@ use Rattle.tib_determinize.proofs.alive.begin_at.Given as goal
 
 abbrev pub invariant-loop-one : goal.invariant-loop-one
 invariant-loop-one g l = record {
-  sound : Each (IsBegun l.rules l.label l.rank) l.alive.items;
-  whole : BeginAll l.rules l.label l.rank l.place (take l.one-index l.places) l.alive.items;
+  sound : Each (IsBegun l.walk.rules.now l.walk.label l.walk.rank) l.alive.items;
+  whole : BeginAll l.walk.rules.now l.walk.label l.walk.rank l.walk.last (take l.one-index l.places) l.alive.items;
 }

@@ -19,7 +19,7 @@ returns-clause-more c = λ p h. subst (λ (xs : List ℕ). Has xs p) (sym c.in_o
 pub returns-clause-own : goal.returns-clause-own
 returns-clause-own c = λ p r up only stands.
     let w = c.args.walk.now in
-    let hold = if_some c.args.holders _ c.requires.holders c.in-Some.holders c.in-Some.is in
+    let hold = if_some c.args.walk.now.holders _ c.requires.holders c.in-Some.holders c.in-Some.is in
     subst (λ (xs : List ℕ). Has xs p) (sym c.in_ok-extend_from_slice.ensures.items)
     (has_right c.args.wanted.now.items c.of-positions.result.now p
     (c.of-positions.ensures w.order.now (w.position + 1) p r hold (omega (arith, up))
