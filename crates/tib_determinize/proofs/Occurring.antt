@@ -3,7 +3,7 @@ use Rattle.std.specs.Prelude.{◌≡◌, ◌⊎◌, ℕ, ◌+◌, ◌<◌, ◌�
 use Rattle.std.specs.Global.{Vec}
 use Rattle.std.proofs.Common.{zero, suc, arith, ap, sym, ◌∙◌, subst, get_or, inl, inr}
 use Rattle.tib_lex.specs.Lists.{Has, Each}
-use Rattle.tib_lex.proofs.Members.{each_has, has_left, has_right}
+use Rattle.tib_lex.proofs.Members.{has_left, has_right}
 use Rattle.tib_lex.proofs.Lists.{each_append}
 use Rattle.tib_lex.proofs.Places.{drop_whole}
 use Rattle.tib_tree.specs.Trees.{count}
@@ -12,16 +12,15 @@ use Rattle.tib_grammar.specs.Run.{rule_at}
 use Rattle.tib_grammar.specs.Forms.{AreNormal}
 use Rattle.tib_grammar.specs.declared.Rule.{Rule}
 use Rattle.tib_grammar.proofs.Sides.{length-holes}
-use Rattle.tib_normal.specs.Rules.{positions_with}
 use Rattle.tib_normal.proofs.RulePlaces.{has_rule_place}
 use Rattle.tib_determinize.specs.declared.alive.Alive.{Alive}
 use Rattle.tib_determinize.specs.declared.occurrences.Occurrence.{Occurrence}
 use Rattle.tib_determinize.specs.ListLemmas.{nat_same}
-use Rattle.tib_determinize.specs.Alive.{states_of, Stands, IsAlive, AreLeft}
+use Rattle.tib_determinize.specs.Alive.{states_of, GoesOn, Stands, IsAlive, AreLeft}
 use Rattle.tib_determinize.specs.Holders.{held, HoldMore}
 use Rattle.tib_determinize.specs.Occurrences.{bucket, occurrence, IsHeld, HoldPlaces, LackNone, AreFound, HaveStanding, IsBegun, fresh, BeginAll}
 use Rattle.tib_determinize.specs.Shapes.{root_label}
-use Rattle.tib_determinize.specs.Vectors.{VectorOf, IsWeight}
+use Rattle.tib_determinize.specs.Vectors.{VectorOf, IsWeight, vector_at}
 use Rattle.tib_determinize.proofs.PositionsTried.{taken_more}
 
 same_or_below : (j i : ℕ) → i < j + 1 → (j ≡ i) ⊎ (i < j)
@@ -81,20 +80,23 @@ next_begun rules f k old new a e own before = subst (Each (IsBegun rules f k)) (
 
 -- one of the places is of the label, the rank and the place
 pub begin_own :
-    (rules : List (Rule ℕ)) (f k j : ℕ) (places : List Occurrence) (i : ℕ) (one : Occurrence) (old new : List Alive) → i < length places → one ≡ get_or places i one →
-    new ≡ old ++ fresh one.rule ∷ [] → BeginAll rules f k j (take i places) old → BeginAll rules f k j (take (i + 1) places) new
-begin_own rules f k j places i one old new low is e before o h at begun = elim (taken_more places i one o low is h) [
-  | inl x ↦ subst (λ (xs : List Alive). Has xs (fresh o.rule)) (sym e) (has_left old (fresh one.rule ∷ []) (fresh o.rule) (before o x at begun))
+    (rules : List (Rule ℕ)) (order : List VectorOf) (n f k j : ℕ) (places : List Occurrence) (i : ℕ) (one : Occurrence) (old new : List Alive) → i < length places → one ≡ get_or places i one →
+    new ≡ old ++ fresh one.rule ∷ [] → BeginAll rules order n f k j (take i places) old → BeginAll rules order n f k j (take (i + 1) places) new
+begin_own rules order n f k j places i one old new low is e before o h at begun on = elim (taken_more places i one o low is h) [
+  | inl x ↦ subst (λ (xs : List Alive). Has xs (fresh o.rule)) (sym e) (has_left old (fresh one.rule ∷ []) (fresh o.rule) (before o x at begun on))
   | inr s ↦ subst (λ (x : Occurrence). Has new (fresh x.rule)) s (subst (λ (xs : List Alive). Has xs (fresh one.rule)) (sym e) (has_right old (fresh one.rule ∷ []) (fresh one.rule) (inl refl)))
 ]
 
 -- one of the places is of another label, rank or place
 pub begin_other :
-    (rules : List (Rule ℕ)) (f k j : ℕ) (places : List Occurrence) (i : ℕ) (one : Occurrence) (alive : List Alive) → i < length places → one ≡ get_or places i one →
-    (one.place ≡ j → IsBegun rules f k (fresh one.rule) → ⊥) → BeginAll rules f k j (take i places) alive → BeginAll rules f k j (take (i + 1) places) alive
-begin_other rules f k j places i one alive low is not before o h at begun = elim (taken_more places i one o low is h) [
-  | inl x ↦ before o x at begun
-  | inr s ↦ absurd (not (subst (λ (x : Occurrence). x.place ≡ j) (sym s) at) (subst (λ (x : Occurrence). IsBegun rules f k (fresh x.rule)) (sym s) begun))
+    (rules : List (Rule ℕ)) (order : List VectorOf) (n f k j : ℕ) (places : List Occurrence) (i : ℕ) (one : Occurrence) (alive : List Alive) → i < length places → one ≡ get_or places i one →
+    (one.place ≡ j → IsBegun rules f k (fresh one.rule) → GoesOn rules order n j k one.rule → ⊥) → BeginAll rules order n f k j (take i places) alive → BeginAll rules order n f k j (take (i + 1) places) alive
+begin_other rules order n f k j places i one alive low is not before o h at begun on = elim (taken_more places i one o low is h) [
+  | inl x ↦ before o x at begun on
+  | inr s ↦
+      absurd
+      (not (subst (λ (x : Occurrence). x.place ≡ j) (sym s) at) (subst (λ (x : Occurrence). IsBegun rules f k (fresh x.rule)) (sym s) begun)
+      (subst (λ (x : Occurrence). GoesOn rules order n j k x.rule) (sym s) on))
 ]
 
 same_occurrence : (a b : Occurrence) → (a ≡ b) ⊎ (a ≡ b → ⊥)
@@ -140,22 +142,25 @@ have_standing rules many f k v lists found places none are is m j low h stands =
     let b : bucket (root_label (rule_at rules m).right.label) many ≡ bucket f many = ap (λ s. bucket (root_label s) many) at.root in
     subst (λ (xs : List Occurrence). Has xs (occurrence rules many m j)) (ap (held found) b ∙ sym is) (are (get_or (states_of rules m) j 0) stands.0 (occurrence rules many m j) stands.1 own)
 
--- after the last place those are left whose state at the place j is in the vector
+-- after the last place those are left that go on
 pub begun_left :
-    (product : ℕ → ℕ → ℕ) (rules : List (Rule ℕ)) (normal : AreNormal rules) (order : List VectorOf) (many f k j : ℕ) (v : VectorOf) (places : List Occurrence) (alive : List Alive) → j < k →
-    HaveStanding rules many f k v places → Each (IsBegun rules f k) alive → BeginAll rules f k j places alive → AreLeft product rules order f k j v k [] alive
-begun_left product rules normal order many f k j v places alive low have sound whole = record {
+    (product : ℕ → ℕ → ℕ) (rules : List (Rule ℕ)) (normal : AreNormal rules) (order : List VectorOf) (many f k n j : ℕ) (places : List Occurrence) (alive : List Alive) → j < k →
+    HaveStanding rules many f k (vector_at order n) places → Each (IsBegun rules f k) alive → BeginAll rules order n f k j places alive → AreLeft product rules order f k n j k [] alive
+begun_left product rules normal order many f k n j places alive low have sound whole = record {
   sound = by alive sound;
-  whole = λ m w h weight low_weight stands.
+  whole = λ m w h weight low_weight on.
       let at = has_rule_place rules f k m h in
       let long = length-holes (rule_at rules m).right.kids (normal m at.below).are_holes ∙ at.many in
       let zero_weight : w ≡ 0 = subst (λ (qs : List ℕ). IsWeight product qs [] w) (none m long) weight in
       subst (λ (x : ℕ). Has alive (record { rule = m; weight = x })) (sym zero_weight)
-      (whole (occurrence rules many m j) (have m j (omega (arith, low, long)) h (stands low)) refl (record { below = at.below; root = at.root; rank = long; none = refl }));
+      (whole (occurrence rules many m j) (have m j (omega (arith, low, long)) h (stands m (on j low))) refl (record { below = at.below; root = at.root; rank = long; none = refl }) on);
 }
   where
     none : (m : ℕ) → length (states_of rules m) ≡ k → drop k (states_of rules m) ≡ []
     none m l = drop_whole (states_of rules m) k (omega (arith, l))
+
+    stands : (m : ℕ) → (p : ℕ) × (p ≤ n) × (j ≡ j → p ≡ n) × Stands rules j (vector_at order p) m → Stands rules j (vector_at order n) m
+    stands m s = subst (λ p. Stands rules j (vector_at order p) m) (s.2 refl) s.3
 
     one : (a : Alive) → IsBegun rules f k a → IsAlive product rules order f k k [] a
     one a b = record {

@@ -1,5 +1,5 @@
 -- The rules that are left on a walk, where n is last at the place j.
-use Rattle.std.specs.Prelude.{◌≡◌, ℕ, ◌+◌, ◌<◌, Bool, List, [], ◌∷◌, ◌++◌, length, drop, refl}
+use Rattle.std.specs.Prelude.{◌≡◌, ℕ, ◌+◌, ◌<◌, ◌≤◌, Bool, List, [], ◌∷◌, ◌++◌, length, drop, refl}
 use Rattle.std.proofs.Common.{zero, suc, arith, ap, sym, ◌∙◌, subst, get_or, inl, inr, append_assoc, length-append}
 use Rattle.tib_lex.specs.Lists.{Has}
 use Rattle.tib_grammar.specs.Run.{rule_at}
@@ -9,10 +9,11 @@ use Rattle.tib_cost.specs.Semiring.{ProductLaws}
 use Rattle.tib_determinize.specs.declared.alive.Alive.{Alive}
 use Rattle.tib_determinize.specs.Vectors.{VectorOf, IsWeight, vector_at, vectors_at}
 use Rattle.tib_determinize.specs.Alive.{states_of, AreAlive, AreLeft}
-use Rattle.tib_determinize.specs.Tries.{under, behind_label}
+use Rattle.tib_determinize.specs.Tries.{first_at, many_at, under, behind_label}
 use Rattle.tib_determinize.specs.Stepped.{HasNoStep, AreSteps}
 use Rattle.tib_determinize.proofs.Leaves.{rule_listed, part_within, weights_long}
 use Rattle.tib_determinize.proofs.Tried.{IsAllowed, AreAllowed, allowed_long, at_last, under_is, where_is}
+use Rattle.tib_determinize.proofs.PositionsTried.{ends_up_to}
 use Rattle.tib_determinize.proofs.Underway.{steps_none}
 use Rattle.tib_determinize.proofs.Walked.{labelled_has, weight_behind}
 
@@ -31,20 +32,23 @@ behind_front [] p ps (suc j) e = absurd (omega (arith, e))
 behind_front (x ∷ before) p ps zero e = absurd (omega (arith, e))
 behind_front (x ∷ before) p ps (suc j) e = behind_front before p ps j (omega (arith, e))
 
--- n is at the place j
-at_place : (n j i : ℕ) (front ps : List ℕ) → AreAllowed n j i front → j < i → get_or (front ++ ps) j 0 ≡ n
-at_place n j zero front ps a low = absurd (omega (arith, low))
-at_place n j (suc i) front ps (before, p, e, allowed, rest) low =
-    ap (λ (xs : List ℕ). get_or (xs ++ ps) j 0) e ∙ ap (λ (xs : List ℕ). get_or xs j 0) (append_assoc before (p ∷ []) ps)
-    ∙ elim (where_is j i low) [
-      | inl at ↦ behind_front before p ps j (allowed_long n j i before rest ∙ sym at) ∙ at_last n j p (subst (λ m. IsAllowed n j m p) (sym at) allowed)
-      | inr less ↦ at_place n j i before (p ∷ ps) rest less
-    ]
+-- what is at the place x may be there
+at_place : (n j i x : ℕ) (front ps : List ℕ) → AreAllowed n j i front → x < i → IsAllowed n j x (get_or (front ++ ps) x 0)
+at_place n j zero x front ps a low = absurd (omega (arith, low))
+at_place n j (suc i) x front ps (before, p, e, allowed, rest) low =
+    subst (IsAllowed n j x) (sym (ap (λ (xs : List ℕ). get_or (xs ++ ps) x 0) e ∙ ap (λ (xs : List ℕ). get_or xs x 0) (append_assoc before (p ∷ []) ps)))
+    (elim (where_is x i low) [
+      | inl at ↦ subst (IsAllowed n j x) (sym (behind_front before p ps x (allowed_long n j i before rest ∙ sym at))) (subst (λ m. IsAllowed n j m p) (sym at) allowed)
+      | inr less ↦ at_place n j i x before (p ∷ ps) rest less
+    ])
+
+allowed_up : (n j i p : ℕ) → IsAllowed n j i p → p ≤ n
+allowed_up n j i p a = let up = ends_up_to n j i (first_at n j i + many_at n j i) refl in let low = a.1 in omega (arith, up, low)
 
 module _ (product : ℕ → ℕ → ℕ) {levelled weighted : Bool} (laws : ProductLaws levelled weighted product) (rules : List (Rule ℕ)) (normal : AreNormal rules) (order : List VectorOf) (f k n j : ℕ) where
   -- where no rule is left, no list that ends in the positions has a step
   none_left :
-      (i : ℕ) (ps front : List ℕ) → AreAllowed n j i front → i + length ps ≡ k → AreLeft product rules order f k j (vector_at order n) i ps [] → HasNoStep product rules order (f, front ++ ps)
+      (i : ℕ) (ps front : List ℕ) → AreAllowed n j i front → i + length ps ≡ k → AreLeft product rules order f k n j i ps [] → HasNoStep product rules order (f, front ++ ps)
   none_left i ps front allowed total h = λ q u is low.
       let long = allowed_long n j i front allowed in
       let within = part_within product laws rules normal order f k (rule_at rules is.rule).cost is.weight u is.costs low in
@@ -55,9 +59,14 @@ module _ (product : ℕ → ℕ → ℕ) {levelled weighted : Bool} (laws : Prod
       in
       h.whole is.rule behind.0 (rule_listed product laws rules normal order f k is.rule is.below is.root all)
       (subst (λ m. IsWeight product (drop m (states_of rules is.rule)) (vectors_at order ps) behind.0) long behind.1) behind.2
-      (λ before.
-      let s = stands_at product order (states_of rules is.rule) (front ++ ps) is.weight j is.is_weight (omega (arith, before, all, total)) in
-      (s.0, subst (λ (p : ℕ). Has {A = ℕ × ℕ} (vector_at order p) (get_or (states_of rules is.rule) j 0, s.0)) (at_place n j i front ps allowed before) s.1))
+      (λ x before.
+      let p = get_or (front ++ ps) x 0 in
+      let may = at_place n j i x front ps allowed before in (
+        p,
+        allowed_up n j x p may,
+        λ at. at_last n j p (subst (λ y. IsAllowed n j y p) at may),
+        stands_at product order (states_of rules is.rule) (front ++ ps) is.weight x is.is_weight (omega (arith, before, all, total)),
+      ))
     where
       mapped : (xs : List ℕ) → length (vectors_at order xs) ≡ length xs
       mapped [] = refl
@@ -65,7 +74,7 @@ module _ (product : ℕ → ℕ → ℕ) {levelled weighted : Bool} (laws : Prod
 
   -- so they add no edges
   pub under_none :
-      (i : ℕ) (ps : List ℕ) → i + length ps ≡ k → AreLeft product rules order f k j (vector_at order n) i ps [] → AreSteps product rules order (behind_label f (under n j i ps)) []
+      (i : ℕ) (ps : List ℕ) → i + length ps ≡ k → AreLeft product rules order f k n j i ps [] → AreSteps product rules order (behind_label f (under n j i ps)) []
   under_none i ps total h =
       steps_none product rules order (behind_label f (under n j i ps))
       (λ o has.
@@ -77,5 +86,5 @@ module _ (product : ℕ → ℕ → ℕ) {levelled weighted : Bool} (laws : Prod
       same o g qs a b = sym (ap (λ x. (x, o.1)) a ∙ ap (λ (y : List ℕ). (g, y)) b)
 
   -- where no place is to come, these are all that are alive
-  pub left_are_alive : (ps : List ℕ) (v : VectorOf) (alive : List Alive) → AreLeft product rules order f k j v 0 ps alive → AreAlive product rules order f k 0 ps alive
-  left_are_alive ps v alive h = record { sound = h.sound; whole = λ m w has weight low. h.whole m w has weight low (λ before. absurd (omega (arith, before))) }
+  pub left_are_alive : (ps : List ℕ) (alive : List Alive) → AreLeft product rules order f k n j 0 ps alive → AreAlive product rules order f k 0 ps alive
+  left_are_alive ps alive h = record { sound = h.sound; whole = λ m w has weight low. h.whole m w has weight low (λ x before. absurd (omega (arith, before))) }

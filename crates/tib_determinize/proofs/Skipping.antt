@@ -61,14 +61,14 @@ module _
   nothing_at p from to out =
       let place = level.place in
       let within = level.within in
+      let up = level.up in
       let low : l.place < k = omega (arith, place) in
       let inside : p < length order = omega (arith, to, within) in
       let v = vector_at order p in
       let none : narrowed product rules l.place v l.alive.items ≡ [] = narrowed_nothing product rules l.place v l.alive.items (λ a r h s. out (level.wanted.each p r a from to h s)) in
       under_none product laws rules normal order f k n j l.place (p ∷ l.behind.items) (omega (arith, place))
-      (subst (AreLeft product rules order f k j (vector_at order n) l.place (p ∷ l.behind.items)) none
-      (narrowed_left product laws rules normal order f k l.place p l.behind.items low (each_has (λ v. Rises v) order v rise (has_at order p [] inside)) j (vector_at order n)
-      (λ s. ap (vector_at order) (the_only s)) l.alive.items level.alive))
+      (subst (AreLeft product rules order f k n j l.place (p ∷ l.behind.items)) none
+      (narrowed_left product laws rules normal order f k l.place p l.behind.items low (each_has (λ v. Rises v) order v rise (has_at order p [] inside)) n j (omega (arith, to, up)) the_only l.alive.items level.alive))
     where
       the_only : l.place ≡ j → p ≡ n
       the_only s = let r = level.last s in let low = r.0 in let high = r.1 in omega (arith, low, high, from, to)

@@ -16,6 +16,7 @@ use Rattle.tib_determinize.specs.Tries.{first_at, many_at, span, under, behind_l
 use Rattle.tib_determinize.specs.Levels.{IsLevel, IsWanted, tries_of}
 use Rattle.tib_determinize.specs.Stepped.{IsListing, AreSteps, AddsSteps}
 use Rattle.tib_determinize.proofs.Remaining.{under_none}
+use Rattle.tib_determinize.proofs.PositionsTried.{ends_up_to}
 use Rattle.tib_determinize.proofs.Walked.{narrowed_left, have_place}
 
 -- at its last place n is alone
@@ -56,11 +57,11 @@ module _
 
     -- the rules that are alive at the next position
     pub alive_next : (v : VectorOf) (alive : List Alive) → v ≡ vector_at order l.next → alive ≡ narrowed product rules l.place v l.alive.items →
-        AreLeft product rules order f k j (vector_at order n) l.place (l.next ∷ l.behind.items) alive
+        AreLeft product rules order f k n j l.place (l.next ∷ l.behind.items) alive
     alive_next v alive at e =
-        subst (AreLeft product rules order f k j (vector_at order n) l.place (l.next ∷ l.behind.items)) (sym (e ∙ ap (λ (w : VectorOf). narrowed product rules l.place w l.alive.items) at))
+        subst (AreLeft product rules order f k n j l.place (l.next ∷ l.behind.items)) (sym (e ∙ ap (λ (w : VectorOf). narrowed product rules l.place w l.alive.items) at))
         (narrowed_left product laws rules normal order f k l.place l.next l.behind.items low (each_has (λ v. Rises v) order (vector_at order l.next) rise (has_at order l.next [] in_order))
-        j (vector_at order n) (λ s. ap (vector_at order) (the_only s)) l.alive.items level.alive)
+        n j (let up = level.up in omega (arith, next, up)) the_only l.alive.items level.alive)
       where
         the_only : l.place ≡ j → l.next ≡ n
         the_only s = let r = level.last s in let from = r.0 in let to = r.1 in omega (arith, from, to, next)
@@ -69,20 +70,21 @@ module _
     long = let p = level.place in omega (arith, p)
 
     -- where none is, there is no edge
-    pub nothing_next : (alive : List Alive) → AreLeft product rules order f k j (vector_at order n) l.place (l.next ∷ l.behind.items) alive → alive ≡ [] →
+    pub nothing_next : (alive : List Alive) → AreLeft product rules order f k n j l.place (l.next ∷ l.behind.items) alive → alive ≡ [] →
         AreSteps product rules order (behind_label f (under n j l.place (l.next ∷ l.behind.items))) []
-    nothing_next alive h e = under_none product laws rules normal order f k n j l.place (l.next ∷ l.behind.items) long (subst (AreLeft product rules order f k j (vector_at order n) l.place (l.next ∷ l.behind.items)) e h)
+    nothing_next alive h e = under_none product laws rules normal order f k n j l.place (l.next ∷ l.behind.items) long (subst (AreLeft product rules order f k n j l.place (l.next ∷ l.behind.items)) e h)
 
   -- the level of the place before
   pub level_below :
-      (i : ℕ) (b : Level) (ps : List ℕ) (alive : List Alive) → suc i ≡ l.place → AreLeft product rules order f k j (vector_at order n) l.place ps alive → l.place + length ps ≡ k → b.place ≡ i →
+      (i : ℕ) (b : Level) (ps : List ℕ) (alive : List Alive) → suc i ≡ l.place → AreLeft product rules order f k n j l.place ps alive → l.place + length ps ≡ k → b.place ≡ i →
       b.behind.items ≡ ps → b.alive.items ≡ alive → b.next ≡ first_at n j i → b.end ≡ first_at n j i + many_at n j i → IsWanted rules order b → b.end ≤ length order → b.end ≤ 2 ^ 32 → IsLevel product rules order f k n j b
   level_below i b ps alive at h total place behind is next end wanted within fits = record {
     place = ap (λ m. suc m + length b.behind.items) place ∙ ap (λ (xs : List ℕ). suc i + length xs) behind ∙ ap (λ m. m + length ps) at ∙ total;
-    alive = subst (λ m. AreLeft product rules order f k j (vector_at order n) (suc m) b.behind.items b.alive.items) (sym place)
-        (subst (λ (xs : List ℕ). AreLeft product rules order f k j (vector_at order n) (suc i) xs b.alive.items) (sym behind)
-        (subst (λ (ms : List Alive). AreLeft product rules order f k j (vector_at order n) (suc i) ps ms) (sym is) (subst (λ m. AreLeft product rules order f k j (vector_at order n) m ps alive) (sym at) h)));
+    alive = subst (λ m. AreLeft product rules order f k n j (suc m) b.behind.items b.alive.items) (sym place)
+        (subst (λ (xs : List ℕ). AreLeft product rules order f k n j (suc i) xs b.alive.items) (sym behind)
+        (subst (λ (ms : List Alive). AreLeft product rules order f k n j (suc i) ps ms) (sym is) (subst (λ m. AreLeft product rules order f k n j m ps alive) (sym at) h)));
     last = λ e. only_one n j i b.next b.end next end (sym place ∙ e);
+    up = ends_up_to n j i b.end end;
     wanted = wanted;
     within = within;
     fits = fits;

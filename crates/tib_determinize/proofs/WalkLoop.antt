@@ -5,11 +5,12 @@ use Rattle.tib_lex.specs.Lists.{Has, Each}
 use Rattle.tib_grammar.specs.declared.Rule.{Rule}
 use Rattle.tib_determinize.specs.declared.walk.Level.{Level}
 use Rattle.tib_determinize.specs.declared.listing.VectorListing.{VectorListing}
-use Rattle.tib_determinize.specs.Vectors.{VectorOf, Rises, vector_at}
+use Rattle.tib_determinize.specs.Vectors.{VectorOf, Rises}
 use Rattle.tib_determinize.specs.Tries.{first_at, many_at, span, under, behind_label}
 use Rattle.tib_determinize.specs.Levels.{IsLevel, IsWanted, moved, copies, level_list, past, pending, pending_below, steps_at, steps_of, tries_of}
 use Rattle.tib_determinize.specs.Stepped.{IsUnderway, StepsOverrun}
 use Rattle.tib_determinize.proofs.Underway.{underway_begins, underway_goes_on, overrun_next}
+use Rattle.tib_determinize.proofs.PositionsTried.{ends_up_to}
 use Rattle.tib_determinize.proofs.Visits.{only_one, tries_fresh}
 use Rattle.tib_determinize.proofs.Skipping.{labelled_append, is_skipped}
 use Rattle.tib_determinize.proofs.Underway.{underway_skips}
@@ -93,7 +94,7 @@ module _ (product : ℕ → ℕ → ℕ) (rules : List (Rule ℕ)) (order : List
 
   -- the level of the last place alone
   pub walking_begins :
-      (l : Level) → suc l.place ≡ k → l.behind.items ≡ [] → AreLeft product rules order f k j (vector_at order n) k [] l.alive.items → l.next ≡ first_at n j l.place → l.end ≡ first_at n j l.place + many_at n j l.place →
+      (l : Level) → suc l.place ≡ k → l.behind.items ≡ [] → AreLeft product rules order f k n j k [] l.alive.items → l.next ≡ first_at n j l.place → l.end ≡ first_at n j l.place + many_at n j l.place →
       IsWanted rules order l → l.end ≤ length order → l.end ≤ 2 ^ 32 → all ≡ behind_label f (under n j k []) → IsWalking (l ∷ []) old
   walking_begins l place behind alive next end wanted within fits is = record {
     listed = subst (λ (xs : List (ℕ × List ℕ)). IsUnderway product rules order all xs old old)
@@ -101,8 +102,9 @@ module _ (product : ℕ → ℕ → ℕ) (rules : List (Rule ℕ)) (order : List
     levels = (
       record {
         place = ap (λ (xs : List ℕ). suc l.place + length xs) behind ∙ (let z : suc l.place + 0 ≡ suc l.place = omega arith in z) ∙ place;
-        alive = subst (λ m. AreLeft product rules order f k j (vector_at order n) m l.behind.items l.alive.items) (sym place) (subst (λ (xs : List ℕ). AreLeft product rules order f k j (vector_at order n) k xs l.alive.items) (sym behind) alive);
+        alive = subst (λ m. AreLeft product rules order f k n j m l.behind.items l.alive.items) (sym place) (subst (λ (xs : List ℕ). AreLeft product rules order f k n j k xs l.alive.items) (sym behind) alive);
         last = only_one n j l.place l.next l.end next end;
+        up = ends_up_to n j l.place l.end end;
         wanted = wanted;
         within = within;
         fits = fits;
@@ -149,7 +151,7 @@ module _ (product : ℕ → ℕ → ℕ) (rules : List (Rule ℕ)) (order : List
             (behind_label f (tries_of n j (past l) ++ pending n j ls))
             (subst (λ (xs : List (ℕ × List ℕ)). IsUnderway product rules order all xs old mid) (next_first ls l h) w.listed) u);
         levels = each_append (IsLevel product rules order f k n j) ls (past l ∷ level_list below) (each_front (IsLevel product rules order f k n j) ls (l ∷ []) w.levels).0
-            (record { place = level.place; alive = level.alive; last = λ e. past_last l n (level.last e); wanted = record { each = λ p r a from to. level.wanted.each p r a (omega (arith, from)) to; ascends = level.wanted.ascends }; within = level.within; fits = level.fits }, below_levels below is);
+            (record { place = level.place; alive = level.alive; last = λ e. past_last l n (level.last e); up = level.up; wanted = record { each = λ p r a from to. level.wanted.each p r a (omega (arith, from)) to; ascends = level.wanted.ascends }; within = level.within; fits = level.fits }, below_levels below is);
         few = each_append (λ (m : Level). m.end - m.next ≤ length order) ls (past l ∷ level_list below) old_few.0 (past_few, below_few below few);
       }
     where
@@ -195,6 +197,7 @@ module _ (product : ℕ → ℕ → ℕ) (rules : List (Rule ℕ)) (order : List
             place = level.place;
             alive = level.alive;
             last = λ e. (let r = level.last e in let low = r.0 in (omega (arith, low, from), r.1));
+            up = level.up;
             wanted = record { each = λ p r a low high. level.wanted.each p r a (omega (arith, low, from)) high; ascends = level.wanted.ascends };
             within = level.within;
             fits = level.fits;

@@ -15,7 +15,7 @@ use Rattle.tib_normal.proofs.RulePlaces.{has_rule_place}
 use Rattle.tib_determinize.specs.declared.alive.Alive.{Alive}
 use Rattle.tib_determinize.specs.Vectors.{VectorOf, Rises, IsWeight, vector_at, vectors_at}
 use Rattle.tib_determinize.specs.Lookup.{residual_in}
-use Rattle.tib_determinize.specs.Alive.{states_of, with_alive, weight_with, narrowed, HasPlace, Stands, IsAlive, AreLeft}
+use Rattle.tib_determinize.specs.Alive.{states_of, with_alive, weight_with, narrowed, HasPlace, GoesOn, IsAlive, AreLeft}
 use Rattle.tib_determinize.specs.Tries.{first_at, many_at, span, under, behind_label}
 use Rattle.tib_determinize.specs.VectorLemmas.{one_residual}
 use Rattle.tib_determinize.proofs.LeastCosts.{drop_at}
@@ -134,30 +134,26 @@ module _ (product : ℕ → ℕ → ℕ) {levelled weighted : Bool} (laws : Prod
         other None r = r
         other (Some x) r = inr r
 
-    -- the rules that are left, where the vector at p is that of the place j if i is that place
+    -- the rules that are left, where p is up to n, and n itself if i is the place j
     pub narrowed_left :
-        (j : ℕ) (v : VectorOf) → (i ≡ j → vector_at order p ≡ v) → (alive : List Alive) → AreLeft product rules order f k j v (suc i) ps alive →
-        AreLeft product rules order f k j v i (p ∷ ps) (narrowed product rules i (vector_at order p) alive)
-    narrowed_left j v at_j alive h = record {
+        (n j : ℕ) → p ≤ n → (i ≡ j → p ≡ n) → (alive : List Alive) → AreLeft product rules order f k n j (suc i) ps alive →
+        AreLeft product rules order f k n j i (p ∷ ps) (narrowed product rules i (vector_at order p) alive)
+    narrowed_left n j up only alive h = record {
       sound = sound_still alive h.sound;
-      whole = λ m w has weight low_weight stands.
+      whole = λ m w has weight low_weight on.
           let at = has_rule_place rules f k m has in
           let place : i < length (states_of rules m) = (let e = length-holes (rule_at rules m).right.kids (normal m at.below).are_holes in let r = at.many in omega (arith, low, e, r)) in
           let first = subst (λ (qs : List ℕ). IsWeight product qs (vectors_at order (p ∷ ps)) w) (drop_at (states_of rules m) i 0 place) weight in
           still_has alive (record { rule = m; weight = first.others }) w
-          (h.whole m first.others has first.are (part_within product laws rules normal order f k first.residual first.others w first.is low_weight) (λ before. here m first.residual first.stands stands before))
+          (h.whole m first.others has first.are (part_within product laws rules normal order f k first.residual first.others w first.is low_weight) (here m first.residual first.stands on))
           (ap (λ o. times product o (Some first.others)) (has_residual (vector_at order p) (get_or (states_of rules m) i 0) first.residual rises first.stands)
           ∙ ap cut first.is ∙ cut_within w low_weight);
     }
       where
-        here : (m r : ℕ) → Has {A = ℕ × ℕ} (vector_at order p) (get_or (states_of rules m) i 0, r) → (j < i → Stands rules j v m) → j < suc i → Stands rules j v m
-        here m r has stands before = elim (here_or_before j i before) [
-          | inl e ↦ (
-            r,
-            subst (λ (u : VectorOf). Has {A = ℕ × ℕ} u (get_or (states_of rules m) j 0, r)) (at_j (sym e))
-                (subst (λ (q : ℕ). Has {A = ℕ × ℕ} (vector_at order p) (get_or (states_of rules m) q 0, r)) (sym e) has),
-          )
-          | inr l ↦ stands l
+        here : (m r : ℕ) → Has {A = ℕ × ℕ} (vector_at order p) (get_or (states_of rules m) i 0, r) → GoesOn rules order n j i m → GoesOn rules order n j (suc i) m
+        here m r has on x before = elim (here_or_before x i before) [
+          | inl e ↦ (p, up, λ at. only (sym e ∙ at), (r, subst (λ (q : ℕ). Has {A = ℕ × ℕ} (vector_at order p) (get_or (states_of rules m) q 0, r)) (sym e) has))
+          | inr l ↦ on x l
         ]
 
   -- each rule that is alive has a state at the place before

@@ -60,6 +60,11 @@ HasState rules i m = (m < length rules) × (i < length (states_of rules m))
 abbrev pub Stands : List (Rule ℕ) → ℕ → List (ℕ × ℕ) → ℕ → Type 0
 Stands rules i v m = (r : ℕ) × Has {A = ℕ × ℕ} v (get_or (states_of rules m) i 0, r)
 
+-- at each place before one the state of the rule is in the vector of a position up to n, which is n
+-- itself at the place j
+abbrev pub GoesOn : List (Rule ℕ) → List VectorOf → ℕ → ℕ → ℕ → ℕ → Type 0
+GoesOn rules order n j from m = (i : ℕ) → i < from → (p : ℕ) × (p ≤ n) × (i ≡ j → p ≡ n) × Stands rules i (vector_at order p) m
+
 -- the positions, of those that may be at the place i where n is last at j, at which one of the
 -- rules has its state
 abbrev pub HasWanted : List (Rule ℕ) → List VectorOf → ℕ → ℕ → ℕ → List Alive → List ℕ → Type 0
@@ -90,10 +95,10 @@ module _ (product : ℕ → ℕ → ℕ) (rules : List (Rule ℕ)) (order : List
         (m w : ℕ) → Has (positions_with f k rules) m → IsWeight product (drop from (states_of rules m)) (vectors_at order ps) w → w ≤ most →
         Has alive (record { rule = m; weight = w })
 
-  -- The same for a walk whose lists have a vector at the place j: as long as j is to come, all
-  -- those whose state there is in the vector.
-  pub record AreLeft (j : ℕ) (vector : VectorOf) (from : ℕ) (ps : List ℕ) (alive : List Alive) : Type 0 where
+  -- The same for a walk whose lists have n last at the place j: all those rules that go on at the
+  -- places to come.
+  pub record AreLeft (n j from : ℕ) (ps : List ℕ) (alive : List Alive) : Type 0 where
     pub sound : Each (IsAlive from ps) alive
     pub whole :
         (m w : ℕ) → Has (positions_with f k rules) m → IsWeight product (drop from (states_of rules m)) (vectors_at order ps) w → w ≤ most →
-        (j < from → Stands rules j vector m) → Has alive (record { rule = m; weight = w })
+        GoesOn rules order n j from m → Has alive (record { rule = m; weight = w })

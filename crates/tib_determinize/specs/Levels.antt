@@ -46,8 +46,9 @@ level_list (Some l) = l ∷ []
 -- last at the place j
 pub record IsLevel (product : ℕ → ℕ → ℕ) (rules : List (Rule ℕ)) (order : List VectorOf) (f k n j : ℕ) (l : Level) : Type 0 where
   pub place : suc l.place + length l.behind.items ≡ k
-  pub alive : AreLeft product rules order f k j (vector_at order n) (suc l.place) l.behind.items l.alive.items
+  pub alive : AreLeft product rules order f k n j (suc l.place) l.behind.items l.alive.items
   pub last : l.place ≡ j → (n ≤ l.next) × (l.end ≤ suc n)
+  pub up : l.end ≤ suc n
   pub wanted : IsWanted rules order l
   pub within : l.end ≤ length order
   pub fits : l.end ≤ 2 ^ 32

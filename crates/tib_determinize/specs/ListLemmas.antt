@@ -1,8 +1,7 @@
 -- Lists, and lists side by side.
 use Rattle.std.specs.Prelude.{◌≡◌, ℕ, ◌+◌, ◌<◌, ◌≤◌, ◌⊎◌, List, [], ◌∷◌, ◌++◌, length, refl}
 use Rattle.std.proofs.Common.{zero, suc, arith, ap, subst, inl, inr, get_or}
-use Rattle.tib_lex.specs.Lists.{Has, Each, Distinct, Along}
-use Rattle.tib_grammar.proofs.Members.{has_either}
+use Rattle.tib_lex.specs.Lists.{Has, Each, Along}
 
 -- two numbers are the same or not
 pub nat_same : (a b : ℕ) → (a ≡ b) ⊎ (a ≡ b → ⊥)

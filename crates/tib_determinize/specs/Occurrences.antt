@@ -9,7 +9,7 @@ use Rattle.tib_grammar.specs.declared.Rule.{Rule}
 use Rattle.tib_normal.specs.Rules.{positions_with}
 use Rattle.tib_determinize.specs.declared.alive.Alive.{Alive}
 use Rattle.tib_determinize.specs.declared.occurrences.Occurrence.{Occurrence}
-use Rattle.tib_determinize.specs.Alive.{states_of, Stands}
+use Rattle.tib_determinize.specs.Alive.{states_of, GoesOn, Stands}
 use Rattle.tib_determinize.specs.Holders.{held}
 use Rattle.tib_determinize.specs.Shapes.{root_label}
 use Rattle.tib_determinize.specs.Vectors.{VectorOf}
@@ -54,6 +54,7 @@ pub record IsBegun (rules : List (Rule ℕ)) (f k : ℕ) (a : Alive) : Type 0 wh
 abbrev pub fresh : ℕ → Alive
 fresh m = record { rule = m; weight = 0 }
 
--- of the places of rules those at j of rules of the label and the rank have their rules there
-abbrev pub BeginAll : List (Rule ℕ) → ℕ → ℕ → ℕ → List Occurrence → List Alive → Type 0
-BeginAll rules f k j places alive = (o : Occurrence) → Has places o → o.place ≡ j → IsBegun rules f k (fresh o.rule) → Has alive (fresh o.rule)
+-- of the places of rules those at j of rules of the label and the rank have their rules there, if
+-- these go on where n is last at j
+abbrev pub BeginAll : List (Rule ℕ) → List VectorOf → ℕ → ℕ → ℕ → ℕ → List Occurrence → List Alive → Type 0
+BeginAll rules order n f k j places alive = (o : Occurrence) → Has places o → o.place ≡ j → IsBegun rules f k (fresh o.rule) → GoesOn rules order n j k o.rule → Has alive (fresh o.rule)

@@ -2,7 +2,7 @@
 use Rattle.std.specs.Prelude.{◌≡◌, ℕ, List, [], ◌∷◌, map, length, refl}
 use Rattle.std.proofs.Common.{ap, ◌∙◌}
 use Rattle.tib_lex.specs.Lists.{Each}
-use Rattle.tib_grammar.specs.Sides.{label, over}
+use Rattle.tib_grammar.specs.Sides.{over}
 use Rattle.tib_grammar.specs.declared.Rule.{Rule}
 use Rattle.tib_grammar.proofs.Positions.{reads_positions}
 use Rattle.tib_expand.specs.Lawful.{IsLawful}

@@ -1,6 +1,6 @@
 -- How rules over places and over positions are read as edges of vectors.
 use Rattle.std.specs.Prelude.{ℕ, List, ◌∷◌, map}
-use Rattle.tib_grammar.specs.Sides.{label, over}
+use Rattle.tib_grammar.specs.Sides.{over}
 use Rattle.tib_grammar.specs.GrammarOf.{named_rule}
 use Rattle.tib_grammar.specs.declared.Rule.{Rule}
 use Rattle.tib_grammar.specs.Positions.{positions_of}

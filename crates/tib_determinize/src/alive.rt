@@ -1,14 +1,16 @@
 //! The rules that are alive on a walk over child places, with the products of their residuals.
 
-ghost use Rattle.std.specs.Prelude.{◌≡◌, ◌<◌, Some, length, IfOk, IsTrue};
+ghost use Rattle.std.specs.Prelude.{◌≡◌, ℕ, ◌<◌, ◌≤◌, Some, length, IfOk, IsTrue};
 ghost use Rattle.tib_lex.specs.Lists.{Each};
 ghost use Rattle.tib_grammar.specs.Forms.{AreNormal};
 ghost use Rattle.std.proofs.Common.{get_or};
-ghost use Rattle.tib_determinize.specs.Alive.{HasPlace, HasState, begun, cost_with, costs_of, narrowed, states_of, weight_with};
+ghost use Rattle.tib_determinize.specs.Alive.{GoesOn, HasPlace, HasState, Stands, begun, cost_with, costs_of, narrowed, states_of, weight_with};
 ghost use Rattle.tib_determinize.specs.Lookup.{residual_in};
 ghost use Rattle.tib_determinize.specs.Occurrences.{BeginAll, IsBegun, fresh};
-ghost use Rattle.tib_determinize.specs.Vectors.{Rises};
+ghost use Rattle.tib_determinize.specs.Holders.{AreHolders};
+ghost use Rattle.tib_determinize.specs.Vectors.{Rises, vector_at};
 
+use crate::holders::is_marked;
 use crate::occurrences::Occurrence;
 use crate::vector::Vector;
 use crate::walk::Walk;
@@ -77,22 +79,81 @@ fn is_last_place(walk: &Walk<'_>, one: &Occurrence) -> bool
     own == label && many == walk.rank
 }
 
+// Whether a vector up to a walk's position may have the state of a rule at a place.
+fn is_held(walk: &Walk<'_>, place: u32, rule: u32) -> bool
+    requires normal { AreNormal walk.now.rules.now }
+    requires place { HasState walk.now.rules.now place rule }
+    requires holders { AreHolders walk.now.wide.now walk.now.order.now
+        walk.now.holders.now.lists.items }
+    ensures { (p : ℕ) → p ≤ walk.now.position →
+        Stands walk.now.rules.now place (vector_at walk.now.order.now p) rule → IsTrue result }
+{
+    if place == walk.last {
+        return true;
+    }
+    let state = state_at(walk.rules, place as usize, rule);
+    if !is_marked(walk.wide, state) {
+        return true;
+    }
+    walk.holders.has_below(state, walk.position as usize + 1)
+}
+
+// Whether vectors up to a walk's position may have the states of a rule at all places but the last
+// one of the walk.
+fn goes_on(walk: &Walk<'_>, rule: u32) -> bool
+    requires normal { AreNormal walk.now.rules.now }
+    requires rule { IsBegun walk.now.rules.now walk.now.label walk.now.rank (fresh rule) }
+    requires holders { AreHolders walk.now.wide.now walk.now.order.now
+        walk.now.holders.now.lists.items }
+    ensures { GoesOn walk.now.rules.now walk.now.order.now walk.now.position walk.now.last
+        walk.now.rank rule → IsTrue result }
+{
+    for place in 0..walk.rank {
+        if !is_held(walk, place, rule) {
+            return false;
+        }
+    }
+    true
+}
+
+// Whether a walk begins with the rule of a place: it has its label and its rank, the place is its
+// last one, and vectors up to its position may have the states at the others.
+fn is_begun(walk: &Walk<'_>, one: &Occurrence) -> bool
+    requires normal { AreNormal walk.now.rules.now }
+    requires holders { AreHolders walk.now.wide.now walk.now.order.now
+        walk.now.holders.now.lists.items }
+    ensures sound { IsTrue result → IsBegun walk.now.rules.now walk.now.label walk.now.rank
+        (fresh one.now.rule) }
+    ensures whole { one.now.place ≡ walk.now.last → IsBegun walk.now.rules.now walk.now.label
+        walk.now.rank (fresh one.now.rule) → GoesOn walk.now.rules.now walk.now.order.now
+        walk.now.position walk.now.last walk.now.rank one.now.rule → IsTrue result }
+{
+    if !is_last_place(walk, one) {
+        return false;
+    }
+    goes_on(walk, one.rule)
+}
+
 /// Of some places of rules the rules of a walk's label and rank whose place is its last one, each
-/// with the product of nothing.
+/// with the product of nothing; those that have a state at another place that no vector up to the
+/// walk's position has are left out. Err only if memory is refused. Cost: one step for each place,
+/// and as many as its rank for each of these rules.
 pub(crate) fn begin_at<S: Semiring>(
     alloc: Global,
     walk: &Walk<'_>,
     places: &[Occurrence],
 ) -> Result<Vec<Alive>, AllocError>
     requires normal { AreNormal walk.now.rules.now }
+    requires holders { AreHolders walk.now.wide.now walk.now.order.now
+        walk.now.holders.now.lists.items }
     ensures sound { IfOk result (λ alive. Each (IsBegun walk.now.rules.now walk.now.label
         walk.now.rank) alive.items) }
-    ensures whole { IfOk result (λ alive. BeginAll walk.now.rules.now walk.now.label walk.now.rank
-        walk.now.last places.now alive.items) }
+    ensures whole { IfOk result (λ alive. BeginAll walk.now.rules.now walk.now.order.now
+        walk.now.position walk.now.label walk.now.rank walk.now.last places.now alive.items) }
 {
     let mut alive = Vec::with_capacity(alloc, places.len())?;
     for one in places {
-        if is_last_place(walk, one) {
+        if is_begun(walk, one) {
             alive.push(Alive {
                 rule: one.rule,
                 weight: S::one(),

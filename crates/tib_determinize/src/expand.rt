@@ -3,6 +3,7 @@
 
 ghost use Rattle.std.specs.Prelude.{◌≡◌, ℕ, ◌<◌, length};
 
+use crate::holders::Holders;
 use crate::origin::Origin;
 use crate::residuals::Residuals;
 use crate::vector::Vector;
@@ -15,6 +16,7 @@ use tib_grammar::{Rule, Side};
 impl<'a, S: Semiring> Expand for Residuals<'a, S> {
     ghost use Rattle.std.specs.Prelude.{length};
     ghost use Rattle.tib_determinize.specs.Determinization.{determinization, IsVector};
+    ghost use Rattle.tib_determinize.specs.Holders.{AreHolders};
     ghost use Rattle.tib_determinize.specs.VectorLaws.{vectors_are_lawful};
     ghost use Rattle.tib_determinize.specs.VectorRules.{vector_reading};
 
@@ -24,6 +26,8 @@ impl<'a, S: Semiring> Expand for Residuals<'a, S> {
 
     type Rule = Rule<u32>;
 
+    type Index = Holders;
+
     type Origin = Origin;
 
     type Edge = Rule<Vector>;
@@ -31,6 +35,8 @@ impl<'a, S: Semiring> Expand for Residuals<'a, S> {
     ghost hunted = { λ p. determinization S.product p.normal.now.rules };
 
     ghost admits = { λ p k. IsVector (length p.normal.now.names) k };
+
+    ghost indexes = { λ p order index. AreHolders p.wide.items order index.lists.items };
 
     ghost reading = { vector_reading };
 
@@ -42,15 +48,30 @@ impl<'a, S: Semiring> Expand for Residuals<'a, S> {
         }
     }
 
+    fn begin_index(&self, alloc: Global) -> Result<Holders, AllocError> {
+        Ok(Holders::new(alloc))
+    }
+
+    fn extend_index(
+        &self,
+        alloc: Global,
+        index: &mut Holders,
+        order: &[Vector],
+        from: u32,
+    ) -> Result<(), AllocError> {
+        index.extend(alloc, &self.wide, order, from)
+    }
+
     fn expand(
         &self,
         alloc: Global,
         order: &[Vector],
+        index: &Holders,
         n: u32,
         budget: u64,
     ) -> Result<Edges<Vector, VectorRule>, ExpandError> {
         self.normal.grammar();
-        match self.list_position(alloc, order, n, budget) {
+        match self.list_position(alloc, order, index, n, budget) {
             Ok(listing) => Ok(listing.into_edges()),
             Err(fault) => Err(fault),
         }

@@ -22,6 +22,7 @@ mod walk;
 mod wanted;
 mod wide;
 
+pub use holders::count_below;
 pub use origin::Origin;
 pub use residuals::Residuals;
 pub use started::{final_positions, started_rules};

@@ -1,7 +1,8 @@
 //! The vectors of residuals over a grammar, as what is hunted.
 
 ghost use Rattle.std.specs.Prelude.{◌≡◌, ℕ, ◌+◌, ◌<◌, ◌≤◌, ◌^◌, [], length, IfOk, IfSome, OnOk, Err};
-ghost use Rattle.tib_determinize.specs.Holders.{HoldAll};
+ghost use Rattle.tib_determinize.specs.Holders.{AreHolders};
+ghost use Rattle.tib_grammar.specs.Forms.{AreNormal};
 ghost use Rattle.tib_lex.specs.Lists.{Each};
 ghost use Rattle.tib_expand.specs.Reached.{most_parts};
 ghost use Rattle.tib_determinize.specs.Shapes.{shapes_in};
@@ -34,7 +35,7 @@ pub struct Residuals<'a, S> {
     /// The grammar.
     pub normal: &'a Normal<S>,
     shapes: Vec<(Label, u32)>,
-    wide: Vec<bool>,
+    pub(crate) wide: Vec<bool>,
     occurrences: Occurrences,
     pub ghost listed: { shapes.items ≡ shapes_in normal.now.rules },
     pub ghost lack_none: { LackNone normal.now.rules occurrences.many occurrences.lists.items },
@@ -85,8 +86,8 @@ fn list_shape<S: Semiring>(
     requires normal { AreNormal walk.now.rules.now }
     requires standing { (many : ℕ) × HaveStanding walk.now.rules.now many walk.now.label
         walk.now.rank (vector_at walk.now.order.now walk.now.position) places.now }
-    requires holders { IfSome walk.now.holders (λ h. HoldAll walk.now.order.now
-        (walk.now.position + 1) h.now.lists.items) }
+    requires holders { AreHolders walk.now.wide.now walk.now.order.now
+        walk.now.holders.now.lists.items }
     requires rise { Each (λ v. Rises v) walk.now.order.now }
     requires position { walk.now.position < length walk.now.order.now }
     requires within { IsWithinBudget listing.old }
@@ -113,47 +114,18 @@ fn list_shape<S: Semiring>(
 }
 
 impl<'a, S: Semiring> Residuals<'a, S> {
-    // The positions up to one by the states of their vectors, if its vector has a state of a rule
-    // of more than one child.
-    fn holders_up_to(
-        &self,
-        alloc: Global,
-        order: &[Vector],
-        position: u32,
-    ) -> Result<Option<Holders>, AllocError>
-        requires { position < length order.now }
-        ensures { IfOk result (λ holders. IfSome holders
-            (λ h. HoldAll order.now (position + 1) h.lists.items)) }
-    {
-        if !self.is_wide(&order[position as usize]) {
-            return Ok(None);
-        }
-        Ok(Some(Holders::new(alloc, order, position)?))
-    }
-
-    // Whether a vector has a state that is beside another one in some rule.
-    fn is_wide(&self, vector: &Vector) -> bool {
-        let entries = vector.entries();
-        for i in 0..entries.len() {
-            if let Some(wide) = self.wide.get(entries[i].0 as usize) {
-                if *wide {
-                    return true;
-                }
-            }
-        }
-        false
-    }
-
     /// The edges of a position of an order.
     pub(crate) fn list_position(
         &self,
         alloc: Global,
         order: &[Vector],
+        holders: &Holders,
         position: u32,
         budget: u64,
     ) -> Result<VectorListing, ExpandError>
         requires rise { Each (λ v. Rises v) order.now }
         requires position { position < length order.now }
+        requires holders { AreHolders self.now.wide.items order.now holders.now.lists.items }
         requires budget { budget ≤ most_parts }
         ensures listed { IfOk result (HasSteps S.product self.now.normal.now.rules order.now
             (tries position (shapes_in self.now.normal.now.rules))) }
@@ -164,9 +136,6 @@ impl<'a, S: Semiring> Residuals<'a, S> {
         ensures budget { IfOk result (λ l. l.budget ≡ budget) }
     {
         let rules = self.normal.grammar().rule_list();
-        let Ok(holders) = self.holders_up_to(alloc, order, position) else {
-            return Err(ExpandError::OutOfMemory);
-        };
         let vector = &order[position as usize];
         let Ok(found) = self.occurrences.standing(alloc, vector) else {
             return Err(ExpandError::OutOfMemory);
@@ -179,7 +148,8 @@ impl<'a, S: Semiring> Residuals<'a, S> {
             let walk = Walk {
                 rules,
                 order,
-                holders: holders.as_ref(),
+                wide: &self.wide,
+                holders,
                 label,
                 rank,
                 position,
@@ -219,10 +189,12 @@ impl<'a, S: Semiring> Residuals<'a, S> {
         let Ok(alive) = begin::<S>(alloc, normal.rules_with(label, 0)) else {
             return Err(ExpandError::OutOfMemory);
         };
+        let holders = Holders::new(alloc);
         let walk = Walk {
             rules,
             order: &[],
-            holders: None,
+            wide: &[],
+            holders: &holders,
             label,
             rank: 0,
             position: 0,

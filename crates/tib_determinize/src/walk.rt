@@ -7,11 +7,11 @@ ghost use Rattle.tib_lex.specs.Lists.{Each, Has};
 ghost use Rattle.tib_cost.specs.Semiring.{most};
 ghost use Rattle.tib_grammar.specs.Forms.{AreNormal};
 ghost use Rattle.tib_determinize.specs.Alive.{AreAlive, AreAscending, AreLeft, HasPlace};
-ghost use Rattle.tib_determinize.specs.Holders.{HoldAll};
+ghost use Rattle.tib_determinize.specs.Holders.{AreHolders};
 ghost use Rattle.tib_determinize.specs.Levels.{IsLevel, IsWanted, level_list, moved, past, pending_below};
 ghost use Rattle.tib_determinize.specs.Stepped.{AddsSteps, IsUnderway, IsWithinBudget, StepsOverrun};
 ghost use Rattle.tib_determinize.specs.Tries.{behind_label, first_at, many_at, under};
-ghost use Rattle.tib_determinize.specs.Vectors.{Rises, vector_at};
+ghost use Rattle.tib_determinize.specs.Vectors.{Rises};
 
 use crate::alive::{Alive, costs, narrow};
 use crate::holders::Holders;
@@ -26,13 +26,14 @@ use tib_grammar::Rule;
 use tib_tree::Label;
 
 /// What a walk goes over: the edges of a label over a number of vectors of an order, in which a
-/// position is last at the place `last`. The holders, if there are any, have the positions up to
-/// this one.
+/// position is last at the place `last`. The holders have the positions of the order by the states
+/// that are marked as wide.
 #[derive(Clone, Copy)]
 pub(crate) struct Walk<'w> {
     pub rules: &'w [Rule<u32>],
     pub order: &'w [Vector],
-    pub holders: Option<&'w Holders>,
+    pub wide: &'w [bool],
+    pub holders: &'w Holders,
     pub label: Label,
     pub rank: u32,
     pub position: u32,
@@ -82,9 +83,8 @@ impl Level {
         requires position { walk.now.position < length walk.now.order.now }
         requires normal { AreNormal walk.now.rules.now }
         requires places { Each (HasPlace walk.now.rules.now place) alive.items }
-        requires holders { IfSome walk.now.holders (λ h. HoldAll walk.now.order.now
-            (walk.now.position + 1)
-            h.now.lists.items) }
+        requires holders { AreHolders walk.now.wide.now walk.now.order.now
+            walk.now.holders.now.lists.items }
         ensures place { IfOk result (λ l. l.place ≡ place) }
         ensures behind { IfOk result (λ l. l.behind ≡ behind) }
         ensures alive { IfOk result (λ l. l.alive ≡ alive) }
@@ -190,9 +190,8 @@ fn visit<S: Semiring>(
     requires level { IsLevel S.product walk.now.rules.now walk.now.order.now walk.now.label
         walk.now.rank walk.now.position walk.now.last level.now }
     requires next { level.now.next < level.now.end }
-    requires holders { IfSome walk.now.holders (λ h. HoldAll walk.now.order.now
-            (walk.now.position + 1)
-        h.now.lists.items) }
+    requires holders { AreHolders walk.now.wide.now walk.now.order.now
+        walk.now.holders.now.lists.items }
     requires within { IsWithinBudget listing.old }
     ensures underway { IfOk result (λ below.
         IsUnderway S.product walk.now.rules.now walk.now.order.now
@@ -280,13 +279,10 @@ pub(crate) fn list_all<S: Semiring>(
     requires rise { Each (λ v. Rises v) walk.now.order.now }
     requires position { walk.now.position < length walk.now.order.now }
     requires rank { 1 ≤ walk.now.rank }
-    requires holders { IfSome walk.now.holders (λ h. HoldAll walk.now.order.now
-            (walk.now.position + 1)
-        h.now.lists.items) }
+    requires holders { AreHolders walk.now.wide.now walk.now.order.now
+        walk.now.holders.now.lists.items }
     requires alive { AreLeft S.product walk.now.rules.now walk.now.order.now walk.now.label
-        walk.now.rank
-        walk.now.last (vector_at walk.now.order.now walk.now.position) walk.now.rank []
-        alive.items }
+        walk.now.rank walk.now.position walk.now.last walk.now.rank [] alive.items }
     requires within { IsWithinBudget listing.old }
     ensures added { OnOk result (AddsSteps S.product walk.now.rules.now walk.now.order.now
         (behind_label walk.now.label (under walk.now.position walk.now.last walk.now.rank []))

@@ -1,38 +1,18 @@
 //! The positions that a walk tries at a place: those at which some rule that is alive has its
 //! state.
 
-ghost use Rattle.std.specs.Prelude.{◌≡◌, ℕ, ◌<◌, ◌≤◌, ◌+◌, length, IfOk, IfSome, OnOk};
+ghost use Rattle.std.specs.Prelude.{◌≡◌, ℕ, ◌<◌, ◌≤◌, ◌+◌, length, IfOk, OnOk};
 ghost use Rattle.std.proofs.Common.{get_or};
 ghost use Rattle.tib_lex.specs.Lists.{Each, Has};
 ghost use Rattle.tib_grammar.specs.Forms.{AreNormal};
 ghost use Rattle.tib_determinize.specs.Alive.{AreAscending, HasPlace, HasWanted, states_of};
-ghost use Rattle.tib_determinize.specs.Holders.{HoldAll};
+ghost use Rattle.tib_determinize.specs.Holders.{AreHolders};
 ghost use Rattle.tib_determinize.specs.Vectors.{vector_at};
 
 use crate::alive::{Alive, state_at};
+use crate::holders::{count_below, is_marked};
 use crate::walk::Walk;
 use std::alloc::{AllocError, Global};
-
-// How many of some positions, which ascend, are below one.
-fn count_below(positions: &[u32], least: usize) -> usize
-    requires { AreAscending positions.now }
-    ensures within { result ≤ length positions.now }
-    ensures before { (i : ℕ) → i < result → get_or positions.now i 0 < least }
-    ensures behind { (i : ℕ) → result ≤ i → i < length positions.now → least
-        ≤ get_or positions.now i 0 }
-{
-    let mut low = 0;
-    let mut high = positions.len();
-    while low < high {
-        let middle = low + (high - low) / 2;
-        if (positions[middle] as usize) < least {
-            low = middle + 1;
-        } else {
-            high = middle;
-        }
-    }
-    low
-}
 
 /// The first of some positions, which ascend, that is at least `next` and below `end`; `end` where
 /// there is none, and `next` where that is not below `end`. Cost: a search by halving.
@@ -66,8 +46,8 @@ fn add_below(wanted: &mut Vec<u32>, count: u64) -> Result<(), AllocError>
 }
 
 // Adds the positions at which a rule that is alive has its state at a place, of those that may be
-// there. They are taken from the walk's holders; where it has none, all positions up to its own are
-// added.
+// there. They are taken from the walk's holders; of a state that is not marked as wide, which none
+// beside another one is, all positions up to the walk's are added.
 fn add_wanted(
     walk: &Walk<'_>,
     place: u32,
@@ -76,9 +56,8 @@ fn add_wanted(
 ) -> Result<(), AllocError>
     requires normal { AreNormal walk.now.rules.now }
     requires place { HasPlace walk.now.rules.now place one.now }
-    requires holders { IfSome walk.now.holders (λ h. HoldAll walk.now.order.now
-        (walk.now.position + 1)
-        h.now.lists.items) }
+    requires holders { AreHolders walk.now.wide.now walk.now.order.now
+        walk.now.holders.now.lists.items }
     ensures more { OnOk result ((p : ℕ) → Has wanted.old.items p → Has wanted.new.items p) }
     ensures own { OnOk result ((p r : ℕ) → p ≤ walk.now.position →
         (place ≡ walk.now.last → p ≡ walk.now.position) →
@@ -92,11 +71,11 @@ fn add_wanted(
         wanted.push(walk.position)?;
         return Ok(());
     }
-    let Some(holders) = walk.holders else {
-        return add_below(wanted, walk.position as u64 + 1);
-    };
     let state = state_at(walk.rules, place as usize, one.rule);
-    let positions = holders.of(state);
+    if !is_marked(walk.wide, state) {
+        return add_below(wanted, walk.position as u64 + 1);
+    }
+    let positions = walk.holders.of(state, walk.position as usize + 1);
     wanted.extend_from_slice(positions)?;
     Ok(())
 }
@@ -112,9 +91,8 @@ pub(crate) fn wanted_at(
 ) -> Result<Vec<u32>, AllocError>
     requires normal { AreNormal walk.now.rules.now }
     requires places { Each (HasPlace walk.now.rules.now place) alive.now }
-    requires holders { IfSome walk.now.holders (λ h. HoldAll walk.now.order.now
-        (walk.now.position + 1)
-        h.now.lists.items) }
+    requires holders { AreHolders walk.now.wide.now walk.now.order.now
+        walk.now.holders.now.lists.items }
     ensures wanted { IfOk result (λ w. HasWanted walk.now.rules.now walk.now.order.now
         walk.now.position walk.now.last place alive.now w.items) }
     ensures ascends { IfOk result (λ w. AreAscending w.items) }

@@ -22,6 +22,8 @@ mod Answering
 mod Seeds
 mod Leaves
 mod Tried
+mod Cutting
+mod Choosing
 mod Completions
 mod Positions
 mod PositionTries

@@ -1,11 +1,9 @@
 -- Lists by numbers.
-use Rattle.std.specs.Prelude.{◌≡◌, ℕ, ◌≤◌, nat_eq, if◌then◌else◌, List, [], ◌∷◌, ◌++◌, length, map, take}
+use Rattle.std.specs.Prelude.{◌≡◌, ℕ, nat_eq, if◌then◌else◌, List, [], ◌∷◌, ◌++◌, map}
 use Rattle.std.specs.Global.{Vec}
 use Rattle.std.proofs.Common.{get_or}
-use Rattle.tib_lex.specs.Lists.{Has}
-use Rattle.tib_grammar.specs.declared.Rule.{Rule}
 use Rattle.tib_difference.specs.Difference.{KeyOf}
-use Rattle.tib_difference.specs.Tries.{positions_of, states_in}
+use Rattle.tib_difference.specs.Tries.{positions_of}
 
 -- the list of a number, empty where there is none
 abbrev pub held : {A : Type 0} → List (Vec A) → ℕ → List A
@@ -19,10 +17,6 @@ HoldSame old new = (q : ℕ) → held new q ≡ held old q
 abbrev pub HoldsMore : {A : Type 0} → ℕ → A → List (Vec A) → List (Vec A) → Type 0
 HoldsMore number value old new = (q : ℕ) → held new q ≡ (if nat_eq number q then held old q ++ value ∷ [] else held old q)
 
--- each state has the positions below n whose keys have it
-abbrev pub AreHolders : List KeyOf → ℕ → List (Vec ℕ) → Type 0
-AreHolders order n lists = (q : ℕ) → held lists q ≡ positions_of (take n order) q
-
--- where some of these rules has two places or more
-abbrev pub HoldIfWide : List (Rule ℕ) → List KeyOf → ℕ → List (ℕ × ℕ) → List (Vec ℕ) → Type 0
-HoldIfWide one order n us lists = (u : ℕ × ℕ) → Has us u → 2 ≤ length (states_in one u.0) → AreHolders order n lists
+-- each state has the positions whose keys have it
+abbrev pub AreHolders : List KeyOf → List (Vec ℕ) → Type 0
+AreHolders order lists = (q : ℕ) → held lists q ≡ positions_of order q

@@ -1,13 +1,13 @@
 //! The choices of a walk: the positions that may be at a place, and the lists of positions that go
 //! on with them.
 
-ghost use Rattle.std.specs.Prelude.{◌≡◌, ℕ, ◌<◌, ◌≤◌, ◌^◌, ◌∷◌, ◌++◌, [], length, map, if◌then◌else◌, IsTrue, IfOk, OnOk};
+ghost use Rattle.std.specs.Prelude.{◌≡◌, ℕ, ◌<◌, ◌≤◌, ◌^◌, ◌∷◌, ◌++◌, [], length, map, if◌then◌else◌, IsTrue, IfOk, OnOk, false};
 ghost use Rattle.tib_grammar.specs.Items.{state_in};
 ghost use Rattle.tib_difference.specs.Held.{AreHolders};
 ghost use Rattle.tib_difference.specs.Tries.{below_at, choices_at, grown, itself_at};
 ghost use Rattle.tib_difference.specs.Walks.{IsStuck, prefixes_of};
 
-use crate::lists::{list_of, state_at};
+use crate::lists::state_at;
 use crate::walk::Walk;
 use smallvec::SmallVec;
 use std::alloc::{AllocError, Global};
@@ -17,15 +17,14 @@ use tib_grammar::Item;
 fn below<'w>(walk: &Walk<'w>, states: &[Item<u32>], place: u32) -> &'w [u32]
     requires place { place < length states.now }
     requires last { walk.now.place < length states.now }
-    requires holders { 2 ≤ length states.now → AreHolders walk.now.order.now walk.now.position
-        walk.now.holders.now }
+    requires holders { AreHolders walk.now.order.now walk.now.holders.now.lists.items }
     ensures { result.now ≡ below_at (map state_in states.now) walk.now.order.now walk.now.position
         walk.now.place place }
 {
     if place == walk.place {
         return &[];
     }
-    list_of(walk.holders, state_at(states, place))
+    walk.holders.below(state_at(states, place), walk.position)
 }
 
 // Whether the position of a walk may itself be at a place.
@@ -36,17 +35,35 @@ fn is_allowed(walk: &Walk<'_>, states: &[Item<u32>], place: u32) -> bool
     place <= walk.place && state_at(states, place) == state_at(states, walk.place)
 }
 
-/// Whether no position may be at some place.
+// Whether some position may be at a place.
+fn has_choice(walk: &Walk<'_>, states: &[Item<u32>], place: u32) -> bool
+    requires place { place < length states.now }
+    requires last { walk.now.place < length states.now }
+    requires holders { AreHolders walk.now.order.now walk.now.holders.now.lists.items }
+    ensures yes { IsTrue result → choices_at (map state_in states.now) walk.now.order.now
+        walk.now.position walk.now.place place ≡ [] → ⊥ }
+    ensures no { result ≡ false → choices_at (map state_in states.now) walk.now.order.now
+        walk.now.position walk.now.place place ≡ [] }
+{
+    let positions = below(walk, states, place);
+    if positions.is_empty() {
+        return is_allowed(walk, states, place);
+    }
+    true
+}
+
+/// Whether no position may be at some place. Cost: a search by halving for each place.
 pub(crate) fn is_stuck(walk: &Walk<'_>, states: &[Item<u32>], rank: u32) -> bool
     requires many { rank ≡ length states.now }
     requires last { walk.now.place < length states.now }
-    requires holders { 2 ≤ length states.now → AreHolders walk.now.order.now walk.now.position
-        walk.now.holders.now }
-    ensures { IsTrue result → IsStuck (choices_at (map state_in states.now) walk.now.order.now
+    requires holders { AreHolders walk.now.order.now walk.now.holders.now.lists.items }
+    ensures yes { IsTrue result → IsStuck (choices_at (map state_in states.now) walk.now.order.now
         walk.now.position walk.now.place) rank }
+    ensures no { result ≡ false → IsStuck (choices_at (map state_in states.now) walk.now.order.now
+        walk.now.position walk.now.place) rank → ⊥ }
 {
     for place in 0..rank {
-        if below(walk, states, place).is_empty() && !is_allowed(walk, states, place) {
+        if !has_choice(walk, states, place) {
             return true;
         }
     }
@@ -94,8 +111,7 @@ pub(crate) fn push_choices(
     requires next { length prefix.now < length states.now }
     requires many { length states.now < 2 ^ 32 }
     requires last { walk.now.place < length states.now }
-    requires holders { 2 ≤ length states.now → AreHolders walk.now.order.now walk.now.position
-        walk.now.holders.now }
+    requires holders { AreHolders walk.now.order.now walk.now.holders.now.lists.items }
     ensures { OnOk result (prefixes_of stack.new.items ≡ prefixes_of stack.old.items
         ++ grown prefix.now (choices_at (map state_in states.now) walk.now.order.now
         walk.now.position walk.now.place (length prefix.now))) }

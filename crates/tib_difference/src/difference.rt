@@ -2,20 +2,21 @@
 
 ghost use Rattle.std.specs.Prelude.{◌≡◌, ℕ, ◌<◌, ◌≤◌, [], length, IfOk, Err};
 ghost use Rattle.tib_determinize.specs.Determinization.{LeftsBelow};
-ghost use Rattle.tib_difference.specs.Held.{held};
+ghost use Rattle.tib_difference.specs.Held.{AreHolders, held};
 ghost use Rattle.tib_difference.specs.Lefts.{AreAscending};
 ghost use Rattle.tib_difference.specs.Shapes.{IsIndex};
 ghost use Rattle.tib_difference.specs.Tries.{leaves_of, tries, users_of};
 ghost use Rattle.tib_difference.specs.Listing.{Exceed, HasAll, IsWithinBudget};
 ghost use Rattle.tib_expand.specs.Reached.{most_parts};
 
+use crate::holders::Holders;
 use crate::index::index_rules;
 use crate::listing::KeyListing;
 use crate::lists::{list_of, users_by_state};
 use crate::subset::Second;
 use crate::subset_key::SubsetKey;
 use crate::users::list_users;
-use crate::walk::list_leaves;
+use crate::walk::{Walk, list_leaves};
 use std::alloc::{AllocError, Global};
 use tib_cost::{Boolean, Semiring};
 use tib_expand::ExpandError;
@@ -81,14 +82,16 @@ impl<'a, S: Semiring> Difference<'a, S> {
     }
 
     // The edges of a position of an order.
-    pub(crate) fn list_position(
-        &self,
+    pub(crate) fn list_position<'w>(
+        &'w self,
         alloc: Global,
-        order: &[SubsetKey],
+        order: &'w [SubsetKey],
+        holders: &'w Holders,
         position: u32,
         budget: u64,
     ) -> Result<KeyListing, ExpandError>
         requires position { position < length order.now }
+        requires holders { AreHolders order.now holders.now.lists.items }
         requires ascending { AreAscending order.now }
         requires budget { budget ≤ most_parts }
         ensures listed { IfOk result (HasAll self.now.left.now.rules self.now.right.now.rules
@@ -106,6 +109,15 @@ impl<'a, S: Semiring> Difference<'a, S> {
             index: &self.index,
         };
         let users = list_of(&self.users, order[position as usize].state());
-        list_users(alloc, first, &second, order, users, position, budget)
+        let walk = Walk {
+            first,
+            second,
+            order,
+            holders,
+            rule: 0,
+            place: 0,
+            position,
+        };
+        list_users(alloc, &walk, users, budget)
     }
 }

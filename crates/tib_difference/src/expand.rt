@@ -4,6 +4,7 @@
 ghost use Rattle.std.specs.Prelude.{◌≡◌, ℕ, ◌<◌, length};
 
 use crate::difference::Difference;
+use crate::holders::Holders;
 use crate::subset_key::SubsetKey;
 use std::alloc::{AllocError, Global};
 use tib_cost::Semiring;
@@ -14,6 +15,7 @@ use tib_grammar::{Rule, Side};
 impl<'a, S: Semiring> Expand for Difference<'a, S> {
     ghost use Rattle.std.specs.Prelude.{length};
     ghost use Rattle.tib_difference.specs.Difference.{difference, IsKey};
+    ghost use Rattle.tib_difference.specs.Held.{AreHolders};
     ghost use Rattle.tib_difference.specs.KeyLaws.{difference_is_lawful};
     ghost use Rattle.tib_difference.specs.KeyRules.{key_reading};
 
@@ -23,6 +25,8 @@ impl<'a, S: Semiring> Expand for Difference<'a, S> {
 
     type Rule = Rule<u32>;
 
+    type Index = Holders;
+
     type Origin = Origin;
 
     type Edge = Rule<SubsetKey>;
@@ -30,6 +34,8 @@ impl<'a, S: Semiring> Expand for Difference<'a, S> {
     ghost hunted = { λ p. difference p.left.now.rules p.right.now.rules };
 
     ghost admits = { λ p k. IsKey (length p.left.now.names) (length p.right.now.names) k };
+
+    ghost indexes = { λ p order index. AreHolders order index.lists.items };
 
     ghost reading = { key_reading };
 
@@ -45,15 +51,30 @@ impl<'a, S: Semiring> Expand for Difference<'a, S> {
         }
     }
 
+    fn begin_index(&self, alloc: Global) -> Result<Holders, AllocError> {
+        Ok(Holders::new(alloc))
+    }
+
+    fn extend_index(
+        &self,
+        alloc: Global,
+        index: &mut Holders,
+        order: &[SubsetKey],
+        from: u32,
+    ) -> Result<(), AllocError> {
+        index.extend(alloc, order, from)
+    }
+
     fn expand(
         &self,
         alloc: Global,
         order: &[SubsetKey],
+        index: &Holders,
         n: u32,
         budget: u64,
     ) -> Result<Edges<SubsetKey, VectorRule>, ExpandError> {
         self.left.grammar();
-        match self.list_position(alloc, order, n, budget) {
+        match self.list_position(alloc, order, index, n, budget) {
             Ok(listing) => Ok(listing.into_edges()),
             Err(fault) => Err(fault),
         }

@@ -6,6 +6,7 @@
 mod choices;
 mod difference;
 mod expand;
+mod holders;
 mod index;
 pub mod laws;
 mod listing;

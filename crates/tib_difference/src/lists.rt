@@ -1,14 +1,12 @@
-//! Lists by numbers: positions by the states of their keys, and places of rules by the states that
-//! are there.
+//! Lists by numbers, as of places of rules by the states that are there.
 
 ghost use Rattle.std.specs.Prelude.{◌≡◌, ℕ, ◌<◌, ◌^◌, ◌++◌, length, map, IfOk, OnOk};
 ghost use Rattle.std.proofs.Common.{get_or};
 ghost use Rattle.tib_grammar.specs.Forms.{AreNormal};
 ghost use Rattle.tib_grammar.specs.Items.{state_in};
-ghost use Rattle.tib_difference.specs.Held.{AreHolders, HoldSame, HoldsMore, held};
+ghost use Rattle.tib_difference.specs.Held.{HoldSame, HoldsMore, held};
 ghost use Rattle.tib_difference.specs.Tries.{places_with, states_in, users_of};
 
-use crate::subset_key::SubsetKey;
 use std::alloc::{AllocError, Global};
 use tib_grammar::{Item, Rule};
 
@@ -23,8 +21,9 @@ fn make_room<T: Drop>(alloc: Global, lists: &mut Vec<Vec<T>>, number: u32) -> Re
     Ok(())
 }
 
-// Adds a value to the list of a number.
-fn add<T: Drop>(
+/// Adds a value to the list of a number. Err only if memory is refused. It takes one step, and one
+/// for each number up to this one that has no list yet.
+pub(crate) fn add<T: Drop>(
     alloc: Global,
     lists: &mut Vec<Vec<T>>,
     number: u32,
@@ -45,24 +44,6 @@ pub(crate) fn list_of<T>(lists: &[Vec<T>], number: u32) -> &[T]
         Some(list) => list,
         None => &[],
     }
-}
-
-/// The positions below one by the states of their keys. Err only if memory is refused. Cost: one
-/// step for each of these positions, and for each state up to the greatest of theirs.
-pub(crate) fn holders_below(
-    alloc: Global,
-    order: &[SubsetKey],
-    position: u32,
-) -> Result<Vec<Vec<u32>>, AllocError>
-    requires { position < length order.now }
-    ensures { IfOk result (λ lists. AreHolders order.now position lists.items) }
-{
-    let mut lists = Vec::new(alloc);
-    for below in 0..position {
-        let state = order[below as usize].state();
-        add(alloc, &mut lists, state, below)?;
-    }
-    Ok(lists)
 }
 
 /// The state that the item at a place carries, 0 where there is none.

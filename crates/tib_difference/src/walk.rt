@@ -13,6 +13,7 @@ ghost use Rattle.tib_difference.specs.Held.{AreHolders};
 ghost use Rattle.tib_difference.specs.Tries.{leaf_try, leaves_of, states_in, tries_at};
 
 use crate::choices::{is_stuck, push_choices};
+use crate::holders::Holders;
 use crate::listing::KeyListing;
 use crate::subset::{Second, subset_over};
 use crate::subset_key::SubsetKey;
@@ -22,13 +23,14 @@ use tib_expand::ExpandError;
 use tib_grammar::Rule;
 
 /// What a walk goes over: the edges of a rule of the first grammar over keys of an order, where a
-/// position is last at a place. The holders are the positions below it by the states of their keys.
+/// position is last at a place. The holders are the positions of the order by the states of their
+/// keys.
 #[derive(Clone, Copy)]
 pub(crate) struct Walk<'w> {
     pub first: &'w [Rule<u32>],
     pub second: Second<'w>,
     pub order: &'w [SubsetKey],
-    pub holders: &'w [Vec<u32>],
+    pub holders: &'w Holders,
     pub rule: u32,
     pub place: u32,
     pub position: u32,
@@ -96,11 +98,12 @@ fn list_leaf(
     if rank != 0 {
         return Ok(());
     }
+    let holders = Holders::new(alloc);
     let walk = Walk {
         first,
         second: *second,
         order: &[],
-        holders: &[],
+        holders: &holders,
         rule: number,
         place: 0,
         position: 0,
@@ -178,8 +181,7 @@ fn list_prefixes(
     requires place { walk.now.place < length (states_in walk.now.first.now walk.now.rule) }
     requires position { walk.now.position < length walk.now.order.now }
     requires ascending { AreAscending walk.now.order.now }
-    requires holders { 2 ≤ length (states_in walk.now.first.now walk.now.rule) →
-        AreHolders walk.now.order.now walk.now.position walk.now.holders.now }
+    requires holders { AreHolders walk.now.order.now walk.now.holders.now.lists.items }
     requires within { IsWithinBudget listing.old }
     ensures added { OnOk result (Adds walk.now.first.now walk.now.second.rules.now
         walk.now.order.now (tries_at walk.now.first.now walk.now.order.now walk.now.position
@@ -233,8 +235,7 @@ pub(crate) fn list_tries(
     requires place { walk.now.place < length (states_in walk.now.first.now walk.now.rule) }
     requires position { walk.now.position < length walk.now.order.now }
     requires ascending { AreAscending walk.now.order.now }
-    requires holders { 2 ≤ length (states_in walk.now.first.now walk.now.rule) →
-        AreHolders walk.now.order.now walk.now.position walk.now.holders.now }
+    requires holders { AreHolders walk.now.order.now walk.now.holders.now.lists.items }
     requires within { IsWithinBudget listing.old }
     ensures added { OnOk result (Adds walk.now.first.now walk.now.second.rules.now
         walk.now.order.now (tries_at walk.now.first.now walk.now.order.now walk.now.position

@@ -91,7 +91,13 @@ fn check(
         source.now.right.now result }
 {
     let line = source.line;
-    match check_variables(line, source.left, source.right, source.found.root, variables) {
+    match check_variables(
+        line,
+        source.left,
+        source.right,
+        source.found.root,
+        variables,
+    ) {
         Ok(()) => {}
         Err(error) => return Err(error),
     }

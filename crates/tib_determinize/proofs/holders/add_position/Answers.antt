@@ -1,24 +1,7 @@
-use Rattle.std.proofs.Common.{◌≡◌, ◌++◌, ◌∷◌, ℕ, List, [], ap, sym, ◌∙◌}
-use Rattle.std.specs.Global.{Vec}
-use Rattle.std.proofs.lemmas.List.{get_or-map}
-use Rattle.tib_determinize.specs.Holders.{held}
-use Rattle.tib_determinize.proofs.Holding.{position_added, position_stands}
+use Rattle.tib_determinize.proofs.Holding.{position_set}
 use Rattle.tib_determinize.proofs.holders.add_position.Goals as goal
 
-pub returns-clause-more : goal.returns-clause-more
-returns-clause-more c = λ q p h.
-    let lists = c.make_room.new.lists.items in
-    let is : c.push.new.self.items ≡ held lists c.args.state ++ c.args.position ∷ [] =
-    c.in_ok-push.ensures.items ∙ ap (λ (xs : List ℕ). xs ++ c.args.position ∷ [])
-    (ap (λ (b : Vec ℕ). b.items) c.index_mut.ensures.value ∙ sym (get_or-map (λ (b : Vec ℕ). b.items) lists c.args.state c.index_mut.result.now [] c.in_ok-make_room.ensures.room))
-    in
-    position_added lists c.args.state c.args.position c.push.new.self c.in_ok-make_room.ensures.room is q p (c.in_ok-make_room.ensures.more q p h)
-
-pub returns-clause-own : goal.returns-clause-own
-returns-clause-own c =
-    let lists = c.make_room.new.lists.items in
-    let is : c.push.new.self.items ≡ held lists c.args.state ++ c.args.position ∷ [] =
-    c.in_ok-push.ensures.items ∙ ap (λ (xs : List ℕ). xs ++ c.args.position ∷ [])
-    (ap (λ (b : Vec ℕ). b.items) c.index_mut.ensures.value ∙ sym (get_or-map (λ (b : Vec ℕ). b.items) lists c.args.state c.index_mut.result.now [] c.in_ok-make_room.ensures.room))
-    in
-    position_stands lists c.args.state c.args.position c.push.new.self c.in_ok-make_room.ensures.room is
+pub returns : goal.returns
+returns c =
+    position_set c.args.lists.now.items c.make_room.new.lists.items c.args.state c.args.position c.push.new.self c.index_mut.result.now c.in_ok-make_room.ensures.same c.in_ok-make_room.ensures.room c.index_mut.ensures.value
+    c.in_ok-push.ensures.items

@@ -1,4 +1,4 @@
-use Rattle.std.proofs.Common.{◌≡◌, ◌++◌, ◌∷◌, ℕ, List, [], ap, sym, ◌∙◌}
+use Rattle.std.proofs.Common.{◌≡◌, ◌++◌, ◌∷◌, List, [], ap, sym, ◌∙◌}
 use Rattle.std.specs.Global.{Vec}
 use Rattle.tib_determinize.specs.declared.occurrences.Occurrence.{Occurrence}
 use Rattle.std.proofs.lemmas.List.{get_or-map}

@@ -1,4 +1,4 @@
-use Rattle.std.proofs.Common.{◌≡◌, ℕ, List, take, arith, sym, ◌∙◌, get_or, subst}
+use Rattle.std.proofs.Common.{◌≡◌, List, take, arith, sym, get_or, subst}
 use Rattle.std.proofs.lemmas.List.{take_all}
 use Rattle.tib_lex.specs.Lists.{Has}
 use Rattle.tib_determinize.specs.declared.occurrences.Occurrence.{Occurrence}

@@ -1,6 +1,5 @@
-use Rattle.std.proofs.Common.{◌≡◌, ℕ, ◌+◌, ◌-◌, List, [], sym, ◌∙◌, subst}
+use Rattle.std.proofs.Common.{ℕ, ◌+◌, ◌-◌, List, [], sym, ◌∙◌, subst}
 use Rattle.tib_expand.specs.declared.place.ExpandError.{ExpandError}
-use Rattle.tib_determinize.specs.Vectors.{vector_at}
 use Rattle.tib_determinize.specs.Stepped.{IsUnderway}
 use Rattle.tib_determinize.specs.Tries.{under, by_last, behind_label}
 use Rattle.tib_determinize.proofs.Results.{err_is}
@@ -12,7 +11,7 @@ use Rattle.tib_determinize.proofs.residuals.list_shape.Goals as goal
 pub list_all-requires-clause-alive : goal.list_all-requires-clause-alive
 list_all-requires-clause-alive g c =
     let w = c.args.walk.now in
-    begun_left g.S.Semiring.product w.rules.now c.requires.normal w.order.now c.requires.standing.0 w.label w.rank c.loop-last.last (vector_at w.order.now w.position) c.args.places.now c.in-Ok.alive.items c.loop-last-test.true
+    begun_left g.S.Semiring.product w.rules.now c.requires.normal w.order.now c.requires.standing.0 w.label w.rank w.position c.loop-last.last c.args.places.now c.in-Ok.alive.items c.loop-last-test.true
     c.requires.standing.1 c.in-Ok.ensures.sound c.in-Ok.ensures.whole
 
 pub returns-in-Err-clause-more : goal.returns-in-Err-clause-more

@@ -4,7 +4,6 @@ use Rattle.tib_determinize.specs.declared.walk.Level.{Level}
 use Rattle.tib_lex.specs.Lists.{Each}
 use Rattle.tib_determinize.proofs.Walked.{have_place}
 use Rattle.tib_determinize.specs.Alive.{IsAlive, AreLeft}
-use Rattle.tib_determinize.specs.Vectors.{vector_at}
 use Rattle.tib_determinize.specs.Levels.{steps_of}
 use Rattle.tib_determinize.specs.Tries.{first_at, many_at, under, behind_label}
 use Rattle.tib_determinize.proofs.Results.{err_is, if_some}
@@ -23,7 +22,7 @@ returns-then-is_empty-clause-added g c =
     let total : w.rank + 0 ≡ w.rank = omega arith in
     adds_nothing product w.rules.now w.order.now (behind_label w.label (under w.position w.last w.rank [])) c.args.listing.now
     (under_none product g.met.S.Semiring.laws w.rules.now c.requires.normal w.order.now w.label w.rank w.position w.last w.rank [] total
-    (subst (λ (ms : List Alive). AreLeft product w.rules.now w.order.now w.label w.rank w.last (vector_at w.order.now w.position) w.rank [] ms) empty c.requires.alive))
+    (subst (λ (ms : List Alive). AreLeft product w.rules.now w.order.now w.label w.rank w.position w.last w.rank [] ms) empty c.requires.alive))
 
 pub loop-whole-init : goal.loop-whole-init
 loop-whole-init g c =
@@ -37,7 +36,7 @@ loop-whole-init g c =
     record {
       walking = subst (λ (xs : List Level). IsWalking product w.rules.now w.order.now w.label w.rank w.position w.last all c.args.listing.now xs c.args.listing.now) (sym items)
           (walking_begins product w.rules.now w.order.now w.label w.rank w.position w.last all c.args.listing.now l (ap suc e.place ∙ one) (ap (λ v. v.items) e.behind ∙ c.new.ensures.items)
-          (subst (λ v. AreLeft product w.rules.now w.order.now w.label w.rank w.last (vector_at w.order.now w.position) w.rank [] v.items) (sym e.alive) c.requires.alive)
+          (subst (λ v. AreLeft product w.rules.now w.order.now w.label w.rank w.position w.last w.rank [] v.items) (sym e.alive) c.requires.alive)
           (e.next ∙ ap (first_at w.position w.last) (sym e.place))
           (e.end ∙ ap (λ i. first_at w.position w.last i + many_at w.position w.last i) (sym e.place)) e.wanted e.within e.fits refl);
       within = c.requires.within;

@@ -7,7 +7,6 @@ use Rattle.tib_lex.specs.Lists.{Each}
 use Rattle.tib_determinize.specs.Alive.{IsAlive}
 use Rattle.tib_determinize.proofs.Walked.{have_place}
 use Rattle.tib_determinize.specs.Alive.{narrowed, AreAlive, AreLeft}
-use Rattle.tib_determinize.specs.Vectors.{vector_at}
 use Rattle.tib_determinize.proofs.Remaining.{left_are_alive}
 use Rattle.tib_determinize.specs.Tries.{under, behind_label}
 use Rattle.tib_determinize.specs.Stepped.{AddsSteps, IsUnderway, StepsOverrun}
@@ -57,8 +56,8 @@ list-requires-clause-alive g c =
     let positions : c.in-Ok-put_before.positions.items ≡ l.next ∷ l.behind.items = c.in-Ok-put_before.ensures ∙ ap (λ (xs : List ℕ). l.next ∷ xs) c.deref-2.ensures.value in
     subst (λ (ms : List Alive). AreAlive product w.rules.now w.order.now w.label w.rank 0 c.deref-then-place-eq0.result.now ms) (sym c.deref-then-place-eq0-2.ensures.value)
     (subst (λ (xs : List ℕ). AreAlive product w.rules.now w.order.now w.label w.rank 0 xs c.in-Ok.alive.items) (sym (c.deref-then-place-eq0.ensures.value ∙ positions))
-    (left_are_alive product laws w.rules.now c.requires.normal w.order.now w.label w.rank w.position w.last (l.next ∷ l.behind.items) (vector_at w.order.now w.position) c.in-Ok.alive.items
-    (subst (λ m. AreLeft product w.rules.now w.order.now w.label w.rank w.last (vector_at w.order.now w.position) m (l.next ∷ l.behind.items) c.in-Ok.alive.items) c.if-place-eq0.true alive)))
+    (left_are_alive product laws w.rules.now c.requires.normal w.order.now w.label w.rank w.position w.last (l.next ∷ l.behind.items) c.in-Ok.alive.items
+    (subst (λ m. AreLeft product w.rules.now w.order.now w.label w.rank w.position w.last m (l.next ∷ l.behind.items) c.in-Ok.alive.items) c.if-place-eq0.true alive)))
 
 pub returns-then-place-eq0-clause-underway : goal.returns-then-place-eq0-clause-underway
 returns-then-place-eq0-clause-underway g c =

@@ -1,27 +1,19 @@
-use Rattle.std.proofs.Common.{ℕ, List, ◌+◌, sym, ◌∙◌, subst, drop, get_or}
-use Rattle.std.specs.Global.{Vec}
+use Rattle.std.proofs.Common.{◌+◌, sym, ◌∙◌, subst, drop, get_or}
 use Rattle.tib_determinize.proofs.Results.{err_is}
-use Rattle.tib_difference.specs.Held.{AreHolders}
 use Rattle.tib_difference.specs.Listing.{Exceed}
 use Rattle.tib_difference.specs.Tries.{tries_all, tries_at}
 use Rattle.tib_difference.proofs.Adding.{begins, exceed, has_all}
 use Rattle.tib_difference.proofs.Steps.{underway_next, underway_over, underway_end}
-use Rattle.tib_difference.proofs.Tried.{held_at, tries_step, tries_end}
+use Rattle.tib_difference.proofs.Tried.{tries_step, tries_end}
 use Rattle.tib_difference.proofs.users.list_users.Goals as goal
-
-pub list_tries-requires-clause-holders : goal.list_tries-requires-clause-holders
-list_tries-requires-clause-holders c = λ wide.
-    let n = c.loop-number.number in
-    subst (λ (lists : List (Vec ℕ)). AreHolders c.args.order.now c.args.position lists) (sym c.deref.ensures.value)
-    (held_at c.args.first.now c.args.order.now c.args.position c.args.users.now c.in-Ok.holders.items n c.in-Ok.ensures c.loop-number-test.true wide)
 
 pub returns-in-Err-clause-more : goal.returns-in-Err-clause-more
 returns-in-Err-clause-more c = λ e.
-    let one = c.args.first.now in
-    let two = c.args.second.now.rules.now in
-    let order = c.args.order.now in
+    let one = c.args.walk.now.first.now in
+    let two = c.args.walk.now.second.rules.now in
+    let order = c.args.walk.now.order.now in
     let users = c.args.users.now in
-    let p = c.args.position in
+    let p = c.args.walk.now.position in
     let n = c.loop-number.number in
     let all = tries_all one order p users in
     let start = c.new-listing.result in
@@ -33,26 +25,26 @@ returns-in-Err-clause-more c = λ e.
 
 pub loop-number-preserved : goal.loop-number-preserved
 loop-number-preserved c =
-    let one = c.args.first.now in
-    let two = c.args.second.now.rules.now in
-    let order = c.args.order.now in
+    let one = c.args.walk.now.first.now in
+    let two = c.args.walk.now.second.rules.now in
+    let order = c.args.walk.now.order.now in
     let users = c.args.users.now in
-    let p = c.args.position in
+    let p = c.args.walk.now.position in
     let n = c.loop-number.number in
     record {
-      within = c.in-Ok-list_tries.ensures.within;
+      within = c.in-Ok.ensures.within;
       budget = c.list_tries.ensures.budget ∙ c.loop-number.invariant.budget;
       underway = underway_next one two order (tries_all one order p users) (tries_at one order p (get_or users n (0, 0)).0 (get_or users n (0, 0)).1) (tries_all one order p (drop n users)) (tries_all one order p (drop (n + 1) users)) c.new-listing.result c.loop-number.listing c.list_tries.new.listing
-          c.loop-number.invariant.underway (tries_step one order p users n c.loop-number-test.true) c.in-Ok-list_tries.ensures.added;
+          c.loop-number.invariant.underway (tries_step one order p users n c.loop-number-test.true) c.in-Ok.ensures.added;
     }
 
 pub returns-clause-listed : goal.returns-clause-listed
 returns-clause-listed c =
-    let one = c.args.first.now in
-    let two = c.args.second.now.rules.now in
-    let order = c.args.order.now in
+    let one = c.args.walk.now.first.now in
+    let two = c.args.walk.now.second.rules.now in
+    let order = c.args.walk.now.order.now in
     let users = c.args.users.now in
-    let p = c.args.position in
+    let p = c.args.walk.now.position in
     let n = c.loop-number.number in
     let all = tries_all one order p users in
     let start = c.new-listing.result in

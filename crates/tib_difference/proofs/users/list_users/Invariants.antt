@@ -8,5 +8,5 @@ abbrev pub invariant-loop-number : goal.invariant-loop-number
 invariant-loop-number l = record {
   within : IsWithinBudget l.listing;
   budget : l.listing.budget ≡ l.budget;
-  underway : IsUnderway l.first l.second.rules.now l.order (tries_all l.first l.order l.position l.users) (tries_all l.first l.order l.position (drop l.number l.users)) l.initial.listing l.listing;
+  underway : IsUnderway l.walk.first.now l.walk.second.rules.now l.walk.order.now (tries_all l.walk.first.now l.walk.order.now l.walk.position l.users) (tries_all l.walk.first.now l.walk.order.now l.walk.position (drop l.number l.users)) l.initial.listing l.listing;
 }

@@ -1,7 +1,6 @@
-use Rattle.std.proofs.Common.{rules, ◌≡◌, ◌<◌, ◌≤◌, ◌++◌, ◌∷◌, [], ℕ, List, length, map, arith, ap, sym, ◌∙◌, subst, refl}
+use Rattle.std.proofs.Common.{rules, ◌≡◌, ◌<◌, ◌++◌, ◌∷◌, [], ℕ, List, length, map, arith, ap, sym, ◌∙◌, subst, refl}
 use Rattle.std.proofs.lemmas.List.{get_or_read, nil_from_length}
 use Rattle.tib_lex.specs.Lists.{Each}
-use Rattle.tib_lex.proofs.Lists.{length_map}
 use Rattle.tib_tree.specs.Trees.{count}
 use Rattle.tib_grammar.specs.Items.{state_in}
 use Rattle.tib_grammar.specs.Run.{no_rule, rule_at}
@@ -44,16 +43,8 @@ returns-then-is_stuck-clause-added c =
     in
     let states_are = c.states_below-states.ensures.states ∙ ap (λ (r : Rule ℕ). holes r.right.kids) at in
     subst (λ os. Adds w.first.now w.second.rules.now w.order.now os c.args.listing.now c.args.listing.now)
-    (sym (tries_none w.first.now w.order.now w.position w.rule w.place c.root-rank.result.1 rank_is (map state_in c.states_below-states.result.now) states_are (c.if-is_stuck.ensures refl)))
+    (sym (tries_none w.first.now w.order.now w.position w.rule w.place c.root-rank.result.1 rank_is (map state_in c.states_below-states.result.now) states_are (c.if-is_stuck.ensures.yes refl)))
     (adds_none w.first.now w.second.rules.now w.order.now c.args.listing.now)
-
-pub push_choices-requires-clause-holders : goal.push_choices-requires-clause-holders
-push_choices-requires-clause-holders c = λ wide.
-    let w = c.args.walk.now in
-    let at = sym c.index-walk-walk.is ∙ get_or_read w.first.now w.rule c.index-walk-walk.result c.requires.rule c.index-walk-walk.is no_rule in
-    let states_are = c.states_below-states.ensures.states ∙ ap (λ (r : Rule ℕ). holes r.right.kids) at in
-    let long = sym (length_map state_in c.states_below-states.result.now) ∙ ap (λ (qs : List ℕ). length qs) states_are in
-    c.requires.holders (subst (λ (n : ℕ). 2 ≤ n) long wide)
 
 pub returns-in_default-pop-clause-added : goal.returns-in_default-pop-clause-added
 returns-in_default-pop-clause-added c =

@@ -1,4 +1,4 @@
-use Rattle.std.proofs.Common.{◌≡◌, ℕ, length, arith}
+use Rattle.std.proofs.Common.{arith}
 use Rattle.tib_determinize.proofs.Occurring.{next_rule}
 use Rattle.tib_determinize.proofs.occurrences.Occurrences.new.Goals as goal
 

@@ -8,11 +8,6 @@ use Rattle.tib_determinize.specs.Tries.{tries, by_last, behind_label}
 use Rattle.tib_determinize.proofs.Results.{err_is}
 use Rattle.tib_determinize.proofs.Underway.{underway_next, overrun_next, listing_empty}
 use Rattle.tib_determinize.proofs.Passes.{shape_first, shapes_done, has_steps, steps_exceed}
-use Rattle.std.proofs.Common.{Bor, Option, None, Some}
-use Rattle.std.specs.Prelude.{IfSome}
-use Rattle.std.specs.Option.{option_copied}
-use Rattle.tib_determinize.specs.Holders.{HoldAll}
-use Rattle.tib_determinize.specs.declared.holders.Holders.{Holders}
 use Rattle.std.specs.Global.{Vec}
 use Rattle.std.proofs.Common.{[], ap}
 use Rattle.std.proofs.lemmas.List.{get_or_read}
@@ -74,14 +69,6 @@ returns-clause-listed g c =
     (subst (λ (left : List (ℕ × List ℕ)). IsUnderway product rules c.args.order.now (tries c.args.position shapes) left c.new-listing.result c.loop-i.listing)
     (shapes_done c.args.position shapes c.loop-i.i c.loop-i-test.false) c.loop-i.invariant.listed))
 
-copied_holds : (o : Option (Bor Holders)) (x : Option Holders) (P : Holders → Type 0) → option_copied o ≡ x → IfSome x P → IfSome o (λ h. P h.now)
-copied_holds None x P e h = tt
-copied_holds (Some b) x P e h = subst (λ (y : Option Holders). IfSome y P) (sym e) h
-
-pub list_shape-requires-clause-holders : goal.list_shape-requires-clause-holders
-list_shape-requires-clause-holders g c =
-    copied_holds c.as_ref-held.result c.in-Ok.holders (λ h. HoldAll c.args.order.now (c.args.position + 1) h.lists.items) c.as_ref-held.ensures.value c.in-Ok.ensures
-
 pub list_shape-requires-clause-standing : goal.list_shape-requires-clause-standing
 list_shape-requires-clause-standing g c =
     let rules = c.args.self.now.normal.now.rules in
@@ -91,12 +78,11 @@ list_shape-requires-clause-standing g c =
     let own = c.args.self.now.occurrences in
     let v = vector_at order c.args.position in
     let at = get_or_read order c.args.position c.index-order-position.result c.requires.position c.index-order-position.is [] in
-    let are : AreFound v own.lists.items c.in-Ok-standing.found.items = subst (λ (u : VectorOf). AreFound u own.lists.items c.in-Ok-standing.found.items) at c.in-Ok-standing.ensures in
-    let is : c.of_label-places.result.now ≡ held c.in-Ok-standing.found.items (bucket s.0 own.many) =
+    let are : AreFound v own.lists.items c.in-Ok.found.items = subst (λ (u : VectorOf). AreFound u own.lists.items c.in-Ok.found.items) at c.in-Ok.ensures in
+    let is : c.of_label-places.result.now ≡ held c.in-Ok.found.items (bucket s.0 own.many) =
     c.of_label-places.ensures ∙ ap (λ (xs : List (Vec Occurrence)). held xs (bucket s.0 own.many)) c.deref.ensures.value
-    in
-    (
+    in (
       own.many,
       subst (λ (rs : List (Rule ℕ)). HaveStanding rs own.many s.0 s.1 v c.of_label-places.result.now) (sym rules_are)
-          (have_standing rules own.many s.0 s.1 v own.lists.items c.in-Ok-standing.found.items c.of_label-places.result.now c.args.self.now.lack_none are is),
+          (have_standing rules own.many s.0 s.1 v own.lists.items c.in-Ok.found.items c.of_label-places.result.now c.args.self.now.lack_none are is),
     )
