@@ -1,15 +1,15 @@
 -- The inverse of the inverse of a rule is the rule.
 use Rattle.std.specs.Prelude.{◌≡◌, ℕ, ◌+◌, ◌<◌, List, [], ◌∷◌, ◌++◌, length, map, Option, Some, None, refl}
-use Rattle.std.proofs.Common.{zero, suc, arith, ap, sym, ◌∙◌, subst, inl, inr, get_or}
+use Rattle.std.proofs.Common.{suc, arith, ap, sym, ◌∙◌, subst, inl, inr, get_or}
 use Rattle.std.proofs.lemmas.List.{length-append, length-map, ext_get_or, get_or_append_left, get_or-append-add}
-use Rattle.tib_lex.specs.Lists.{Has, Distinct}
-use Rattle.tib_lex.proofs.Members.{has_at, has_left, has_right}
+use Rattle.tib_lex.specs.Lists.{Has}
+use Rattle.tib_lex.proofs.Members.{has_left, has_right}
 use Rattle.tib_lex.proofs.Places.{get_map, at_map}
 use Rattle.tib_tree.specs.Trees.{Trees, none, tree, only, relabel}
 use Rattle.tib_tree.proofs.Counts.{tree_same}
 use Rattle.tib_grammar.specs.Sides.{Symbol, label, hole, Side, holes, holes_of, HolesAreLeaves, symbol_map, side_map}
 use Rattle.tib_grammar.proofs.Sides.{holes-relabel}
-use Rattle.tib_transducer.specs.Rules.{transducer_rule, no_rule, variables_of, states_in, variables_in}
+use Rattle.tib_transducer.specs.Rules.{transducer_rule, no_rule, states_in, variables_in}
 use Rattle.tib_transducer.specs.Range.{AreNumbered, IsShaped, AreShaped, EndsInHoles, EndInHoles}
 use Rattle.tib_transducer.specs.TransducerOf.{TransducerOf}
 use Rattle.tib_transducer.specs.declared.Variable.{Variable}

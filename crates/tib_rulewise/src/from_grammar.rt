@@ -8,6 +8,7 @@ ghost use Rattle.tib_rulewise.specs.DerivationSeries.{GivesDerivations, HaveOneC
 
 use crate::labels::label_of_rule;
 use crate::sides::{count_holes, over_variables, side_of};
+use smallvec::SmallVec;
 use std::alloc::{AllocError, Global};
 use tib_cost::Semiring;
 use tib_grammar::{Grammar, Item, Rule, Side};
@@ -15,11 +16,14 @@ use tib_transducer::{Pair, Transducer, TransducerRule};
 use tib_tree::{Label, Labels};
 
 // The items, with each state read on from the variable at its place.
-fn output_items(alloc: Global, items: &[Item<u32>]) -> Result<Vec<Item<Pair<u32>>>, AllocError>
+fn output_items(
+    alloc: Global,
+    items: &[Item<u32>],
+) -> Result<SmallVec<Item<Pair<u32>>, 3>, AllocError>
     requires { length items.now < 2 ^ 32 }
     ensures { IfOk result (λ v. v.items ≡ placed_items read_from 0 items.now) }
 {
-    let mut output = Vec::with_capacity(alloc, items.len())?;
+    let mut output = SmallVec::with_capacity(alloc, items.len())?;
     let mut next: u32 = 0;
     for item in items {
         match item {
@@ -89,9 +93,10 @@ fn derivation_rules(
 {
     let mut derived = Vec::with_capacity(alloc, rules.len())?;
     let mut number: u32 = 0;
+    let mut text = Vec::new(alloc);
     for rule in rules {
         number += 1;
-        let label = label_of_rule(alloc, labels, number)?;
+        let label = label_of_rule(labels, number, &mut text)?;
         derived.push(derivation_rule(alloc, label, rule)?)?;
     }
     Ok(derived)

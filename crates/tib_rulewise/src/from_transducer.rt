@@ -11,17 +11,21 @@ ghost use Rattle.tib_rulewise.specs.Invertible.{IsInvertible, AreInvertible};
 ghost use Rattle.tib_rulewise.specs.Paired.{AreListed, pair_in};
 
 use crate::sides::{count_holes, side_of};
+use smallvec::SmallVec;
 use std::alloc::{AllocError, Global};
 use tib_cost::Semiring;
 use tib_grammar::{Item, Side};
 use tib_transducer::{Pair, Transducer, TransducerRule, Variable};
 
 // The items, with the variable of its place for each pair.
-fn read_items(alloc: Global, items: &[Item<Pair<u32>>]) -> Result<Vec<Item<Variable>>, AllocError>
+fn read_items(
+    alloc: Global,
+    items: &[Item<Pair<u32>>],
+) -> Result<SmallVec<Item<Variable>, 3>, AllocError>
     requires { length items.now < 2 ^ 32 }
     ensures { IfOk result (λ v. v.items ≡ placed_items variable_at 0 items.now) }
 {
-    let mut read = Vec::with_capacity(alloc, items.len())?;
+    let mut read = SmallVec::with_capacity(alloc, items.len())?;
     let mut next: u32 = 0;
     for item in items {
         match item {
@@ -105,11 +109,11 @@ fn paired_items(
     alloc: Global,
     items: &[Item<Variable>],
     listed: &[(u32, u32)],
-) -> Result<Vec<Item<Pair<u32>>>, AllocError>
+) -> Result<SmallVec<Item<Pair<u32>>, 3>, AllocError>
     requires { Each (λ x. x.number < length listed.now) (holes_in items.now) }
     ensures { IfOk result (λ v. v.items ≡ map (item_with (pair_in listed.now)) items.now) }
 {
-    let mut paired = Vec::with_capacity(alloc, items.len())?;
+    let mut paired = SmallVec::with_capacity(alloc, items.len())?;
     for item in items {
         paired.push(paired_item(item, listed))?;
     }

@@ -194,7 +194,8 @@ where
     P::Rules: Send,
     requires hand { Holds P.gives P.count_of P.is_ready (P.about task) table.now items.now hand }
     requires some { 1 ≤ workers }
-    requires others { MaySplit (workers - 1) hand.seat.shares hand.share items.now.count hand.going }
+    requires others { MaySplit (workers - 1) hand.seat.shares hand.share items.now.count
+        hand.going }
     ensures table { IfOk result (λ r. r.1.table ≡ table.now) }
     ensures rows { IfOk result (λ r. All (IsRowOf P.gives P.count_of (P.about task) r.1.known)
         r.0.items) }

@@ -9,8 +9,11 @@ use Rattle.tib_rulewise.proofs.from_grammar.output_side.Goals as goal
 pub side_of-requires : goal.side_of-requires
 side_of-requires c = (
   omega arith,
-  one_tree c.in_ok-output.output.items (placed_side read_from c.args.side.now)
-      (ap pairs_of c.in_ok-output.ensures ∙ items-placed read_from c.items-items.result.now c.args.side.now c.items-items.ensures.items c.items-items.ensures.leaves),
+  (
+    omega arith,
+    one_tree c.in_ok-output.output.items (placed_side read_from c.args.side.now)
+        (ap pairs_of c.in_ok-output.ensures ∙ items-placed read_from c.items-items.result.now c.args.side.now c.items-items.ensures.items c.items-items.ensures.leaves),
+  ),
 )
 
 pub returns : goal.returns

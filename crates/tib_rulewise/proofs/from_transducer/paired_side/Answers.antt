@@ -13,8 +13,11 @@ paired_items-requires c = each_of_side (λ x. x.number < length c.args.listed.no
 pub side_of-requires : goal.side_of-requires
 side_of-requires c = (
   omega arith,
-  one_tree c.in_ok-paired.paired.items (side_map (pair_in c.args.listed.now) c.args.side.now)
-      (ap pairs_of c.in_ok-paired.ensures ∙ items-with (pair_in c.args.listed.now) c.args.side.now c.items.result.now c.items.ensures.items),
+  (
+    omega arith,
+    one_tree c.in_ok-paired.paired.items (side_map (pair_in c.args.listed.now) c.args.side.now)
+        (ap pairs_of c.in_ok-paired.ensures ∙ items-with (pair_in c.args.listed.now) c.args.side.now c.items.result.now c.items.ensures.items),
+  ),
 )
 
 pub returns : goal.returns

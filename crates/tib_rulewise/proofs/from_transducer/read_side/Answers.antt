@@ -9,8 +9,11 @@ use Rattle.tib_rulewise.proofs.from_transducer.read_side.Goals as goal
 pub side_of-requires : goal.side_of-requires
 side_of-requires c = (
   omega arith,
-  one_tree c.in_ok-read.read.items (placed_side variable_at c.args.side.now)
-      (ap pairs_of c.in_ok-read.ensures ∙ items-placed variable_at c.items-items.result.now c.args.side.now c.items-items.ensures.items c.items-items.ensures.leaves),
+  (
+    omega arith,
+    one_tree c.in_ok-read.read.items (placed_side variable_at c.args.side.now)
+        (ap pairs_of c.in_ok-read.ensures ∙ items-placed variable_at c.items-items.result.now c.args.side.now c.items-items.ensures.items c.items-items.ensures.leaves),
+  ),
 )
 
 pub returns : goal.returns

@@ -7,5 +7,5 @@ use Rattle.tib_rulewise.proofs.sides.side_of.Goals as goal
 
 pub unreachable-requires : goal.unreachable-requires
 unreachable-requires g c =
-    c.from_preorder.ensures.not_a_tree (c.in-Err-NotATree.is ∙ ap Err c.in-Err-NotATree.field-0-is)
+    c.from_items.ensures.not_a_tree (c.in-Err-NotATree.is ∙ ap Err c.in-Err-NotATree.field-0-is)
     (first_of (label 0) (parse (pairs_of c.args.items.items))) (preorder-first (label 0) (pairs_of c.args.items.items) c.requires)
