@@ -21,6 +21,7 @@ edits:
 
 bench: build
 	@python3 bench/bench.py bin/tiburon
+	@python3 bench/peers.py bin/tiburon
 
 # The program, its manual page and its completion for bash, below PREFIX; packages set DESTDIR too.
 PREFIX ?= /usr/local
