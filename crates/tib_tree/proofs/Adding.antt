@@ -85,7 +85,7 @@ texts_are labels [] (i ∷ is) h = absurd h
 texts_are labels (n ∷ ns) [] h = absurd h
 texts_are labels (n ∷ ns) (i ∷ is) h = cc (get_or_from_slice_get labels n.0 i.text [] h.0.0, texts_are labels ns is h.1)
 
-trees_texts : (labels : List (List ℕ)) (ts : List (Tree ℕ)) (iss : List (List Item)) → AreTrees labels ts iss → label_texts labels ts ≡ item_texts iss
+pub trees_texts : (labels : List (List ℕ)) (ts : List (Tree ℕ)) (iss : List (List Item)) → AreTrees labels ts iss → label_texts labels ts ≡ item_texts iss
 trees_texts labels [] [] h = refl
 trees_texts labels [] (is ∷ iss) h = absurd h
 trees_texts labels (t ∷ ts) [] h = absurd h

@@ -18,7 +18,9 @@ use Rattle.tib_tree.specs.Written.{Item}
 use Rattle.tib_tree.specs.Lines.{tree_line, texts_in}
 use Rattle.tib_tree.specs.File.{trees_of, AddsLine, IsFile}
 use Rattle.tib_tree.specs.Grows.{Grows, AddsAll}
+use Rattle.tib_tree.specs.Growth.{label_texts}
 use Rattle.tib_tree.specs.TreesText.{HasTrees, IsSmall, IsGood, LineHolds}
+use Rattle.tib_tree.proofs.Adding.{trees_texts}
 use Rattle.tib_tree.proofs.FileRead.{SoFar, starts as file_starts, adds, ended as file_ended, failed as file_failed}
 use Rattle.tib_tree.proofs.TreesText.{line_holds, texts_exact, faults_exact}
 use Rattle.tib_tree.specs.OneTree.{IsTheText, IsBlank, HasTree, IsFirstTree, IsSecondTree, IsOneTreeFault, ReadsOneTree}
@@ -149,6 +151,12 @@ pub ended : (old labels : List (List ℕ)) (now : TreesRead) (n at : ℕ) (bytes
 ended old labels now n at bytes end u =
     let r = file_ended old labels u.trees n at bytes end u.so_far in
     answers labels bytes now u.trees (lines_of (drop at bytes)) n (file_good bytes r.0 r.1) ((texts_exact labels bytes u.trees).0 r) u.keeps u.leads
+
+-- the table grew by the labels of the one tree
+pub one_added : (old labels : List (List ℕ)) (t : Tree ℕ) (n at : ℕ) (bytes : List ℕ) → IsUnderway old labels (found.One t) n at bytes → AddsAll old (label_texts labels (t ∷ [])) labels
+one_added old labels t n at bytes u =
+    let all : AddsAll old (label_texts labels u.trees) labels = subst (λ (xs : List (List ℕ)). AddsAll old xs labels) (sym (trees_texts labels u.trees u.so_far.done u.so_far.trees_are)) u.so_far.added in
+    subst (λ (ts : List (Tree ℕ)). AddsAll old (label_texts labels ts) labels) u.keeps all
 
 -- a line with a fault
 line_failed :

@@ -1,8 +1,9 @@
 // The one tree of a tree file.
-ghost use Rattle.std.specs.Prelude.{◌≡◌, ◌<◌, ◌+◌, ◌-◌, ◌^◌, ◌≤◌, length, OnOk};
+ghost use Rattle.std.specs.Prelude.{◌≡◌, ◌<◌, ◌+◌, ◌-◌, ◌^◌, ◌≤◌, [], ◌∷◌, length, IfOk, OnOk};
 ghost use Rattle.tib_lex.specs.Limits.{most_bytes};
 ghost use Rattle.tib_lex.specs.Lines.{HasNoFeed};
 ghost use Rattle.tib_tree.specs.Grows.{Grows, AddsAll};
+ghost use Rattle.tib_tree.specs.Growth.{label_texts};
 ghost use Rattle.tib_tree.specs.Lines.{tree_line, texts_in};
 ghost use Rattle.tib_tree.specs.TreesRead.{CountsLine};
 ghost use Rattle.tib_tree.specs.OneTree.{ReadsOneTree};
@@ -50,6 +51,8 @@ pub fn read_one_tree(alloc: Global, bytes: &[u8], labels: &mut Labels) -> Result
     requires short { length bytes.now ≤ most_bytes }
     requires room { length labels.old + length bytes.now < 2 ^ 32 - 1 }
     ensures tree { ReadsOneTree labels.new bytes.now result }
+    ensures added { IfOk result (λ t. AddsAll labels.old (label_texts labels.new (t ∷ []))
+        labels.new) }
     ensures few { length labels.new ≤ length labels.old + length bytes.now }
     ensures grows { Grows labels.old labels.new }
 {

@@ -8,7 +8,7 @@ use Rattle.tib_tree.proofs.FileRead.{line_long}
 use Rattle.tib_tree.proofs.Growing.{grows_twice, grows_not}
 use Rattle.tib_tree.specs.TreesRead.{Counts, CountsLine}
 use Rattle.tib_tree.specs.declared.trees_read.TreesRead.{TreesRead}
-use Rattle.tib_tree.proofs.Counting.{starts, step, ended, failed, IsAnswer}
+use Rattle.tib_tree.proofs.Counting.{starts, step, ended, failed, one_added, IsAnswer, IsUnderway}
 use Rattle.tib_tree.proofs.one_tree.read_one_tree.Goals as goal
 
 pub loop-line-init : goal.loop-line-init
@@ -48,6 +48,11 @@ pub returns-in-One-clause-tree : goal.returns-in-One-clause-tree
 returns-in-One-clause-tree c =
     subst (λ (now : TreesRead). IsAnswer c.loop-line.labels c.args.bytes.now now) c.in-One.is
     (ended c.args.labels.now c.loop-line.labels c.loop-line.found c.loop-line.number c.loop-line.at c.args.bytes.now (c.in_default.ensures.none refl) c.loop-line.invariant.underway)
+
+pub returns-in-One-clause-added : goal.returns-in-One-clause-added
+returns-in-One-clause-added c =
+    one_added c.args.labels.now c.loop-line.labels c.in-One.tree c.loop-line.number c.loop-line.at c.args.bytes.now
+    (subst (λ (now : TreesRead). IsUnderway c.args.labels.now c.loop-line.labels now c.loop-line.number c.loop-line.at c.args.bytes.now) c.in-One.is c.loop-line.invariant.underway)
 
 pub returns-in-Nothing-clause-tree : goal.returns-in-Nothing-clause-tree
 returns-in-Nothing-clause-tree c =
