@@ -3,21 +3,25 @@
 use Rattle.std.specs.Prelude.{◌≡◌, ◌⊎◌, ◌↔◌, ℕ, ◌+◌, ◌<◌, ◌≤◌, Bool, Some, List, [], ◌∷◌, length, map, refl}
 use Rattle.std.proofs.Common.{zero, suc, arith, ap, sym, ◌∙◌, subst, inl, inr, get_or}
 use Rattle.std.proofs.lemmas.List.{length-map}
+use Rattle.tib_lex.specs.Lists.{Has}
+use Rattle.tib_lex.proofs.Lists.{mapped_has}
 use Rattle.tib_lex.proofs.Members.{each_has, each_of, has_at}
 use Rattle.tib_lex.proofs.Places.{distinct_at}
 use Rattle.tib_cost.specs.Semiring.{ProductLaws}
 use Rattle.tib_tree.specs.Trees.{Trees, none, tree, only, relabel}
-use Rattle.tib_grammar.specs.Forms.{AreNormal, IsDeterministic, IsNormalSide}
+use Rattle.tib_grammar.specs.Forms.{AreNormal, IsNormalSide, StandsInSide}
 use Rattle.tib_grammar.specs.GrammarOf.{GrammarOf}
 use Rattle.tib_grammar.specs.Range.{AreInRange}
 use Rattle.tib_grammar.specs.Run.{rule_at, AreRuns}
-use Rattle.tib_grammar.specs.Sides.{Symbol, label, hole, side_map, symbol_map}
+use Rattle.tib_grammar.specs.Sides.{Side as SideFor, Symbol, label, hole, holes_of, side_map, symbol_map}
+use Rattle.tib_grammar.proofs.Sides.{holes-relabel}
 use Rattle.tib_grammar.specs.declared.Rule.{Rule}
 use Rattle.tib_grammar_file.specs.Printed.{AreLabelled, LabelsBelow}
 use Rattle.tib_inside.specs.Trimmed.{IsTrimmed}
 use Rattle.tib_inside.specs.Useful.{IsUseful}
 use Rattle.tib_inside.proofs.Chosen.{ascending_distinct}
 use Rattle.tib_inside.proofs.Keeping.{as_many, named_at}
+use Rattle.tib_ranked_trees.specs.Below.{IsDeterministicBelow}
 use Rattle.tib_ranked_trees.specs.Levels.{IsOrderly}
 use Rattle.tib_ranked_trees.specs.Best.{Costed, HasLarge, IsFrontAt, IsKBest, IsTreeAt}
 use Rattle.tib_ranked_trees.proofs.Children.{get_or-map}
@@ -162,14 +166,37 @@ module _ (product : ℕ → ℕ → ℕ) (old : List (Rule ℕ)) (count : ℕ) (
   side_from : (n : ℕ) → n < length new → (rule_at old (get_or is.rules n 0)).right ≡ side_map (λ j. get_or is.states j 0) (rule_at new n).right
   side_from n h = ap (λ (r : Rule ℕ). r.right) (sym (named_at product before after is n h))
 
-  -- rules with the same right-hand side came from one rule
-  pub trimmed_form : AreNormal old → IsDeterministic old → IsDeterministic new
-  trimmed_form normal form = record {
-    shaped = λ n h. inl (trimmed_normal normal n h);
-    apart = λ m n h k e.
-        let same : get_or is.rules m 0 ≡ get_or is.rules n 0 =
-        form.apart (get_or is.rules m 0) (get_or is.rules n 0) (old_place m h) (old_place n k) (side_from m h ∙ ap (side_map (λ j. get_or is.states j 0)) e ∙ sym (side_from n k)) in
-        distinct_at is.rules m n 0 (ascending_distinct is.rules is.rules_ascend) (omega (arith, h, as_many product before after is)) (omega (arith, k, as_many product before after is)) same;
+  left_from : (n : ℕ) → n < length new → (rule_at old (get_or is.rules n 0)).left ≡ get_or is.states (rule_at new n).left 0
+  left_from n h = ap (λ (r : Rule ℕ). r.left) (sym (named_at product before after is n h))
+
+  -- a state in a right-hand side that is left was in one before
+  stands_from : (q : ℕ) → StandsInSide new q → StandsInSide old (get_or is.states q 0)
+  stands_from q s = record {
+    rule = get_or is.rules s.rule 0;
+    below = old_place s.rule s.below;
+    stands = subst (λ (x : SideFor ℕ ℕ). Has (holes_of x) (get_or is.states q 0)) (sym (side_from s.rule s.below))
+        (subst (λ qs. Has qs (get_or is.states q 0)) (sym (holes-relabel (λ j. get_or is.states j 0) (only (rule_at new s.rule).right)))
+        (mapped_has (λ j. get_or is.states j 0) (holes_of (rule_at new s.rule).right) q s.stands));
+  }
+
+  same_rule : (m n : ℕ) → m < length new → n < length new → get_or is.rules m 0 ≡ get_or is.rules n 0 → m ≡ n
+  same_rule m n h k e = distinct_at is.rules m n 0 (ascending_distinct is.rules is.rules_ascend) (omega (arith, h, as_many product before after is)) (omega (arith, k, as_many product before after is)) e
+
+  sides_from : (m n : ℕ) → m < length new → n < length new → (rule_at new m).right ≡ (rule_at new n).right → (rule_at old (get_or is.rules m 0)).right ≡ (rule_at old (get_or is.rules n 0)).right
+  sides_from m n h k e = side_from m h ∙ ap (side_map (λ j. get_or is.states j 0)) e ∙ sym (side_from n k)
+
+  -- rules with the same right-hand side came from rules with one right-hand side
+  pub trimmed_below : IsDeterministicBelow old → IsDeterministicBelow new
+  trimmed_below form = record {
+    once = λ m n h k left right. same_rule m n h k
+        (form.once (get_or is.rules m 0) (get_or is.rules n 0) (old_place m h) (old_place n k) (left_from m h ∙ ap (λ q. get_or is.states q 0) left ∙ sym (left_from n k)) (sides_from m n h k right));
+    apart = λ m n h k right. elim (form.apart (get_or is.rules m 0) (get_or is.rules n 0) (old_place m h) (old_place n k) (sides_from m n h k right)) [
+      | inl same ↦ inl (same_rule m n h k same)
+      | inr outer ↦ inr (elim outer [
+        | inl here ↦ inl (λ s. here (subst (StandsInSide old) (sym (left_from m h)) (stands_from (rule_at new m).left s)))
+        | inr there ↦ inr (λ s. there (subst (StandsInSide old) (sym (left_from n k)) (stands_from (rule_at new n).left s)))
+      ])
+    ];
   }
 
   large_back : (labels : List (List ℕ)) (k q : ℕ) → q < length states → HasLarge product labels new k q → HasLarge product labels old k (get_or states q 0)

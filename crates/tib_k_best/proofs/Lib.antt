@@ -6,6 +6,8 @@ pub mod LevelTrimming
 pub mod Levelled
 pub mod Listing
 pub mod Lists
+pub mod NormalBelow
+pub mod NotedSides
 pub mod Queueing
 pub mod Ranking
 pub mod Reading

@@ -1,5 +1,6 @@
 -- What is kept while the states get their first trees; and the trees below a cost, those of the
 -- level at it, and how both are listed together.
+pub mod Apart
 pub mod Causes
 pub mod Costs
 pub mod LazyLists

@@ -1,6 +1,5 @@
 // The k best trees in every semiring.
-ghost use Rattle.std.specs.Prelude.{◌≡◌, ◌⊎◌, ℕ, ◌<◌, List as ListFor, [], false, true, length, IfErr, IfOk, IfSome, IsTrue};
-ghost use Rattle.tib_grammar.specs.Forms.{IsDeterministic};
+ghost use Rattle.std.specs.Prelude.{◌≡◌, ◌⊎◌, ℕ, ◌<◌, List as ListFor, [], false, true, length, IfErr, IfOk, IfSome};
 ghost use Rattle.tib_grammar.specs.Run.{rule_at};
 ghost use Rattle.tib_grammar_file.specs.Printed.{AreLabelled};
 ghost use Rattle.tib_ranked_trees.specs.Best.{Costed, IsKBest};
@@ -11,6 +10,7 @@ ghost use Rattle.tib_k_best.specs.RankedOf.{ranked_of, AreRanked};
 
 use crate::best::list_of_rules;
 use crate::error::KBestError;
+use crate::form::is_deterministic_below;
 use crate::lazy_list::lazy_of_rules;
 use crate::level::best_of_copy;
 use crate::level_best::k_best_by_levels;
@@ -20,7 +20,6 @@ use crate::search::Split;
 use crate::weights::{costs_of, numbered};
 use std::alloc::{AllocError, Global};
 use tib_cost::{Cost, Semiring};
-use tib_grammar::Grammar;
 use tib_normal::Normal;
 use tib_ranked_trees::label_ranks;
 use tib_tree::Labels;
@@ -81,18 +80,9 @@ fn flat<S: Semiring>(alloc: Global, list: List) -> Result<Ranked, AllocError>
     Ok(Ranked::new(split, first, Vec::new(alloc)))
 }
 
-// Whether a grammar is in deterministic form. If memory is refused, it returns false.
-fn is_deterministic<S: Semiring>(alloc: Global, grammar: &Grammar<S>) -> bool
-    ensures { IsTrue result → IsDeterministic grammar.now.rules }
-{
-    match grammar.deterministic(alloc) {
-        Ok(_) => true,
-        Err(_) => false,
-    }
-}
-
-// The k best trees of a grammar, with few entries if it is in deterministic form. None only if some
-// state below a rule has no tree. The product is not the greater factor, or each rule costs 0.
+// The k best trees of a grammar, with few entries if it is deterministic below the root. None only
+// if some state below a rule has no tree. The product is not the greater factor, or each rule costs
+// 0.
 fn best_flat<S: Semiring>(
     alloc: Global,
     normal: &Normal<S>,
@@ -112,7 +102,7 @@ fn best_flat<S: Semiring>(
     grammar.is_sound();
     let states = grammar.states();
     let rules = grammar.rule_list();
-    if !is_deterministic::<S>(alloc, grammar) {
+    if !is_deterministic_below(alloc, grammar) {
         return list_of_rules::<S>(alloc, rules, states as usize, labels, ranks, k);
     }
     match lazy_of_rules::<S>(alloc, rules, states, labels, ranks, k) {
@@ -212,11 +202,11 @@ pub fn k_best<S: Semiring>(
 }
 
 /// The same list, with the same errors, without trimming if each state below a rule has a tree, as
-/// in a trimmed grammar. Few entries are placed if it is in deterministic form. Worst case: if the
-/// product is the greater factor, that of `k_best_by_levels`. Otherwise that of `lazy_k_best`
-/// without trimming if the grammar is in deterministic form, and of `best_of_rules` if it is not,
-/// and in addition that of `k_best` if some state has a large tree, or some state below a rule has
-/// none.
+/// in a trimmed grammar. Few entries are placed if it is deterministic below the root, or known to
+/// be so: in deterministic form, or its normal form. Worst case: if the product is the greater
+/// factor, that of `k_best_by_levels`. Otherwise that of `lazy_k_best` without trimming if the
+/// grammar is so, and of `best_of_rules` if it is not, and in addition that of `k_best` if some
+/// state has a large tree, or some state below a rule has none.
 pub fn best_trees<S: Semiring>(
     alloc: Global,
     normal: &Normal<S>,

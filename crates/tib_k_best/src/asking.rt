@@ -1,7 +1,8 @@
 // Lists whose start has the k best trees of rules in normal form, whatever other form the rules
 // have.
 ghost use Rattle.std.specs.Prelude.{◌≡◌, ℕ, ◌<◌, ◌≤◌, ◌+◌, ◌^◌, false, length, IfErr, IfNone, IfOk, IfSome, IsTrue, OnOk};
-ghost use Rattle.tib_grammar.specs.Forms.{AreNormal, IsDeterministic};
+ghost use Rattle.tib_grammar.specs.Forms.{AreNormal};
+ghost use Rattle.tib_ranked_trees.specs.Below.{IsDeterministicBelow};
 ghost use Rattle.tib_grammar.specs.Range.{AreInRange};
 ghost use Rattle.tib_grammar_file.specs.Printed.{AreLabelled};
 ghost use Rattle.tib_ranked_trees.specs.Ranked.{AreRanksOf};
@@ -70,7 +71,7 @@ fn ask<S: Semiring>(alloc: Global, lists: &mut Lists, k: u32, form: Form) -> Res
     requires firsts { AreFirsts S.product lists.old }
     requires trimmed { AreTrimmed lists.old }
     requires orderly { IsOrderly S.product lists.old.rules }
-    requires form { form ≡ Deterministic → IsDeterministic lists.old.rules }
+    requires form { form ≡ Deterministic → IsDeterministicBelow lists.old.rules }
     ensures best { OnOk result (IsKBest S.product lists.old.rules lists.old.labels k
         (entries_of lists.new 0)) }
     ensures fronts { OnOk result (form ≡ Deterministic → (q : ℕ) →
@@ -112,7 +113,7 @@ fn list_trees<S: Semiring>(
 ) -> Result<bool, KBestError>
     requires few { length lists.old.rules < 2 ^ 32 }
     requires orderly { IsOrderly S.product lists.old.rules }
-    requires form { form ≡ Deterministic → IsDeterministic lists.old.rules }
+    requires form { form ≡ Deterministic → IsDeterministicBelow lists.old.rules }
     requires sound { IsSound lists.old }
     requires empty { lists.old ≡ empty_lists lists.old.rules lists.old.labels
         lists.old.label_ranks (length lists.old.lists) }
@@ -164,7 +165,7 @@ pub(crate) fn lists_of_rules<'a, S: Semiring>(
     requires labelled { AreLabelled (length labels.now) rules.now }
     requires ranks { AreRanksOf labels.now ranks.now }
     requires orderly { IsOrderly S.product rules.now }
-    requires form { form ≡ Deterministic → IsDeterministic rules.now }
+    requires form { form ≡ Deterministic → IsDeterministicBelow rules.now }
     requires some { 0 < k }
     ensures best { IfOk result (λ found. IfSome found (λ x. IsKBest S.product rules.now labels.now
         k (entries_of x 0))) }

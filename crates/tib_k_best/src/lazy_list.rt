@@ -1,7 +1,8 @@
 // The best trees of a grammar in deterministic form, with few entries for each.
 ghost use Rattle.std.specs.Prelude.{◌≡◌, ℕ, ◌<◌, ◌≤◌, ◌+◌, ◌^◌, [], false, length, map, IfErr, IfNone, IfOk, IfSome};
 ghost use Rattle.std.proofs.Common.{get_or};
-ghost use Rattle.tib_grammar.specs.Forms.{AreNormal, IsDeterministic};
+ghost use Rattle.tib_grammar.specs.Forms.{AreNormal};
+ghost use Rattle.tib_ranked_trees.specs.Below.{IsDeterministicBelow};
 ghost use Rattle.tib_grammar.specs.Range.{AreInRange};
 ghost use Rattle.tib_grammar.specs.Run.{rule_at};
 ghost use Rattle.tib_grammar_file.specs.Printed.{AreLabelled};
@@ -107,8 +108,8 @@ impl LazyList {
     }
 }
 
-// The lists of all states of rules in normal and in deterministic form, over this number of states.
-// None only if some state below a rule has no tree. An error may name any state.
+// The lists of all states of rules in normal form that are deterministic below the root, over this
+// number of states. None only if some state below a rule has no tree. An error may name any state.
 pub(crate) fn lazy_of_rules<S: Semiring>(
     alloc: Global,
     rules: &[Rule<u32>],
@@ -124,7 +125,7 @@ pub(crate) fn lazy_of_rules<S: Semiring>(
     requires labelled { AreLabelled (length labels.now) rules.now }
     requires ranks { AreRanksOf labels.now ranks.now }
     requires orderly { IsOrderly S.product rules.now }
-    requires form { IsDeterministic rules.now }
+    requires form { IsDeterministicBelow rules.now }
     requires some { 0 < k }
     ensures best { IfOk result (λ found. IfSome found (λ ls. IsKBest S.product rules.now labels.now
         k (get_or ls 0 []))) }
@@ -162,7 +163,7 @@ fn lazy_of_useful<S: Semiring>(
     requires labelled { AreLabelled (length labels.now) rules.items }
     requires ranks { AreRanksOf labels.now ranks.now }
     requires orderly { IsOrderly S.product rules.items }
-    requires form { IsDeterministic rules.items }
+    requires form { IsDeterministicBelow rules.items }
     ensures best { IfOk result (λ ls. IsKBest S.product rules.items labels.now k (get_or ls 0 [])) }
     ensures lists { IfOk result (λ ls. AreUsefulLists S.product labels.now rules.items ls) }
     ensures few { IfOk result (λ ls. length ls ≤ states) }
@@ -181,9 +182,10 @@ fn lazy_of_useful<S: Semiring>(
     }
 }
 
-/// The k best trees of a grammar in deterministic form, as `k_best` gives them, with the entries of
-/// the start and of each useful state that were placed for them: at most as many as there are such
-/// states and nodes of the listed trees. `TreeTooLarge` names a useful state that has among its k
+/// The k best trees of a grammar that is deterministic below the root, as is one in deterministic
+/// form and the normal form of one (law `deterministic_below`). They are those that
+/// `k_best` gives, with the entries of the start and of each useful state that were placed for them:
+/// at most as many as there are such states and nodes of the listed trees. `TreeTooLarge` names a useful state that has among its k
 /// best trees one of more than 10,000 nodes; `OutOfMemory` comes if memory is refused. Worst case:
 /// that of `trim_rules`, a copy of the rules, O(r log r) comparisons of trees for r rules, a pass
 /// over the last listed tree for each tree that is listed, O(log n) comparisons for each entry and
@@ -199,7 +201,7 @@ pub fn lazy_k_best<S: Semiring>(
         (rule_at normal.now.rules n).cost ≡ 0 }
     requires labelled { AreLabelled (length labels.now) normal.now.rules }
     requires some { 0 < k }
-    requires form { IsDeterministic normal.now.rules }
+    requires form { IsDeterministicBelow normal.now.rules }
     ensures best { IfOk result (λ ls. IsKBest S.product normal.now.rules labels.now k
         (get_or ls 0 [])) }
     ensures lists { IfOk result (λ ls. AreUsefulLists S.product labels.now normal.now.rules ls) }

@@ -9,9 +9,9 @@ use Rattle.tib_lex.proofs.Members.{at_has, has_right, has_either}
 use Rattle.tib_cost.specs.Semiring.{ProductLaws}
 use Rattle.tib_tree.specs.Trees.{Tree, size, only, most_nodes}
 use Rattle.tib_tree.specs.Growth.{LabelsBelow}
-use Rattle.tib_grammar.specs.Forms.{IsDeterministic}
 use Rattle.tib_grammar.specs.Range.{SidesEndInHoles}
 use Rattle.tib_grammar.specs.Run.{rule_at}
+use Rattle.tib_ranked_trees.specs.Below.{IsDeterministicBelow}
 use Rattle.tib_ranked_trees.specs.Best.{Costed, IsNextAt, HasLarge}
 use Rattle.tib_ranked_trees.specs.Lazy.{IsFrom, IsKept, IsWhole}
 use Rattle.tib_ranked_trees.specs.Levels.{IsOrderly, states_at}
@@ -137,15 +137,16 @@ module _ {levelled weighted : Bool} {product : ℕ → ℕ → ℕ} (laws : Prod
       let p = at_has (list_of x u) e.0 no_entry e.1 in
       (p.0, p.1, ap (λ (b : Entry). tree_at x.trees b.tree) p.2 ∙ ap (λ (y : Costed). y.0) e.2)
 
-  -- in deterministic form its tree is not listed
-  pub is_new : IsDeterministic x.rules → SidesEndInHoles x.rules → HasTree (entries_of x u) tree → ⊥
+  -- in rules that are deterministic below the root its tree is not listed
+  pub is_new : IsDeterministicBelow x.rules → SidesEndInHoles x.rules → HasTree (entries_of x u) tree → ⊥
   is_new form leaves =
       let tuple = (i.lists.made m within_here).is.tuple in
-      (no_duplicates laws).new x.labels x.rules (entries_of x) i.lists.sound.normal leaves form i.fronts t.asked.taken u d.rule (ranks_of x d) (record { below = tuple.rule; ranks = tuple.ranks }) t.asked.single.from
+      (no_duplicates laws).new x.labels x.rules (entries_of x) i.lists.sound.normal leaves form i.fronts t.asked.taken u d.rule (ranks_of x d) (record { below = tuple.rule; ranks = tuple.ranks }) left
+      (λ y h. (t.asked.kept.named y.0 y.1 h).0) t.asked.single.from
       (distinct_across (tuples x t.waited) t.asked.taken (tuple_of x m) t.asked.single.once (Rattle.tib_lazy_lists.proofs.Kept.mapped_has (tuple_of x) t.waited m t.drawn.3.stands))
 
   -- so it was placed
-  pub is_placed : IsDeterministic x.rules → SidesEndInHoles x.rules → (y : ListsOf) → IsPlacedOnce x u m y → IsPlaced x u m y
+  pub is_placed : IsDeterministicBelow x.rules → SidesEndInHoles x.rules → (y : ListsOf) → IsPlacedOnce x u m y → IsPlaced x u m y
   is_placed form leaves y (inl h) = absurd (is_new form leaves h)
   is_placed form leaves y (inr p) = p
 

@@ -1,6 +1,6 @@
 // The best trees of the start.
 ghost use Rattle.std.specs.Prelude.{◌≡◌, ◌<◌, ◌≤◌, ◌+◌, ℕ, length, IfErr, OnOk};
-ghost use Rattle.tib_grammar.specs.Forms.{IsDeterministic};
+ghost use Rattle.tib_ranked_trees.specs.Below.{IsDeterministicBelow};
 ghost use Rattle.tib_ranked_trees.specs.Best.{IsFrontAt, IsKBest};
 ghost use Rattle.tib_ranked_trees.specs.Levels.{IsOrderly};
 ghost use Rattle.tib_ranked_trees.specs.Held.{entries_of, IsSound};
@@ -81,7 +81,7 @@ pub fn ask_lazily<S: Semiring>(alloc: Global, lists: &mut Lists, k: u32) -> Resu
     requires firsts { AreFirsts S.product lists.old }
     requires trimmed { AreTrimmed lists.old }
     requires orderly { IsOrderly S.product lists.old.rules }
-    requires form { IsDeterministic lists.old.rules }
+    requires form { IsDeterministicBelow lists.old.rules }
     ensures best { OnOk result (IsKBest S.product lists.old.rules lists.old.labels k
         (entries_of lists.new 0)) }
     ensures fronts { OnOk result ((q : ℕ) → IsFrontAt S.product lists.old.labels lists.old.rules q

@@ -1,6 +1,6 @@
 // Demands that are met, those below others first.
 ghost use Rattle.std.specs.Prelude.{◌≡◌, ◌<◌, ◌≤◌, ◌+◌, ℕ, length, IfErr, IfNone, IfSome, OnOk};
-ghost use Rattle.tib_grammar.specs.Forms.{IsDeterministic};
+ghost use Rattle.tib_ranked_trees.specs.Below.{IsDeterministicBelow};
 ghost use Rattle.tib_grammar.specs.Range.{SidesEndInHoles};
 ghost use Rattle.tib_ranked_trees.specs.Best.{IsFrontAt, IsKBest};
 ghost use Rattle.tib_ranked_trees.specs.Levels.{IsOrderly};
@@ -31,7 +31,7 @@ impl Asking {
         requires listed { AreLastListed lists.old (asking_of self.old) }
         requires unmet { IsUnmet lists.old (asking_of self.old) demand }
         requires orderly { IsOrderly S.product lists.old.rules }
-        requires form { IsDeterministic lists.old.rules }
+        requires form { IsDeterministicBelow lists.old.rules }
         requires leaves { SidesEndInHoles lists.old.rules }
         requires answered { let c = candidate_at lists.old
             (state_at (asking_of self.old) demand.state).last in
@@ -63,7 +63,7 @@ impl Asking {
         requires state { demand.state < length (asking_of self.old).states }
         requires many { demand.many ≤ length (list_of lists.old demand.state) }
         requires orderly { IsOrderly S.product lists.old.rules }
-        requires form { IsDeterministic lists.old.rules }
+        requires form { IsDeterministicBelow lists.old.rules }
         requires leaves { SidesEndInHoles lists.old.rules }
         requires answered { IsUnmet lists.old (asking_of self.old) demand →
             let c = candidate_at lists.old (state_at (asking_of self.old) demand.state).last in
@@ -93,7 +93,7 @@ impl Asking {
         requires listed { AreLastListed lists.old (asking_of self.old) }
         requires first { IsUnmet lists.old (asking_of self.old) first }
         requires orderly { IsOrderly S.product lists.old.rules }
-        requires form { IsDeterministic lists.old.rules }
+        requires form { IsDeterministicBelow lists.old.rules }
         requires leaves { SidesEndInHoles lists.old.rules }
         ensures kept { OnOk result (IsAsking S.product lists.new (asking_of self.new)) }
         ensures listed { OnOk result (AreLastListed lists.new (asking_of self.new)) }
@@ -142,7 +142,7 @@ impl Asking {
         requires listed { AreLastListed lists.old (asking_of self.old) }
         requires within { IsWithin (length lists.old.lists) lists.old (asking_of self.old) }
         requires orderly { IsOrderly S.product lists.old.rules }
-        requires form { IsDeterministic lists.old.rules }
+        requires form { IsDeterministicBelow lists.old.rules }
         requires leaves { SidesEndInHoles lists.old.rules }
         requires start { 0 < length (asking_of self.old).states }
         ensures best { OnOk result (IsKBest S.product lists.old.rules lists.old.labels self.old.k

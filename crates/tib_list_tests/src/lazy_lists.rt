@@ -6,7 +6,7 @@ ghost use Rattle.tib_grammar_file.specs.Printed.{AreLabelled};
 use crate::texts::{read, write_answer, write_fault, write_list, write_number};
 use std::alloc::{AllocError, Global};
 use tib_cost::MinPlus;
-use tib_k_best::{LazyList, List, k_best, lazy_k_best};
+use tib_k_best::{LazyList, List, deterministic_below, k_best, lazy_k_best};
 use tib_normal::Normal;
 use tib_tree::Labels;
 
@@ -63,6 +63,7 @@ fn write_asked(
     requires form { IsDeterministic normal.now.rules }
     requires some { 0 < k }
 {
+    deterministic_below::<MinPlus>();
     match lazy_k_best::<MinPlus>(*told.allocator(), normal, labels, k) {
         Ok(lists) => write_lists(told, lists, normal.grammar().states(), with_steps),
         Err(error) => write_fault(told, error),

@@ -4,11 +4,12 @@ use Rattle.std.proofs.Common.{suc}
 use Rattle.tib_lex.specs.Lists.{Has}
 use Rattle.tib_tree.specs.Trees.{Tree}
 use Rattle.tib_cost.specs.Semiring.{most}
-use Rattle.tib_grammar.specs.Forms.{AreNormal, IsDeterministic}
+use Rattle.tib_grammar.specs.Forms.{AreNormal}
 use Rattle.tib_grammar.specs.Range.{SidesEndInHoles}
 use Rattle.tib_grammar.specs.Run.{rule_at}
 use Rattle.tib_grammar.specs.declared.Rule.{Rule}
 use Rattle.tib_ranked_trees.specs.First.{NoLater}
+use Rattle.tib_ranked_trees.specs.Below.{IsDeterministicBelow}
 use Rattle.tib_ranked_trees.specs.Best.{Cheaper, IsTreeAt, Costed, IsNextAt}
 use Rattle.tib_ranked_trees.specs.Levels.{IsOrderly, states_at}
 use Rattle.tib_ranked_trees.specs.Pass.{Entries, AreRanks, zeros, zeros_at, offer, HasTree, IsKnown, Candidate, AreFronts}
@@ -165,20 +166,23 @@ pub record IsFrom (product : ℕ → ℕ → ℕ) (rules : List (Rule ℕ)) (ent
   pub named : IsNamed rules entries rule ranks
   pub same : (offer product rules entries rule ranks).0 ≡ t
 
--- In deterministic form two candidates stand for different trees. So if listed trees came from
--- candidates that were taken, and no candidate that waits was taken, its tree is not listed.
+-- In rules that are deterministic below the root two candidates of one state stand for different
+-- trees. So if the listed trees of a state came from candidates of it that were taken, and one that
+-- waits was not taken, its tree is not listed.
 pub record NoDuplicates (product : ℕ → ℕ → ℕ) : Type 0 where
   pub apart :
       (labels : List (List ℕ)) (rules : List (Rule ℕ)) (entries : Entries) → AreNormal rules →
-      SidesEndInHoles rules → IsDeterministic rules →
+      SidesEndInHoles rules → IsDeterministicBelow rules →
       AreFronts product labels rules entries → (n m : ℕ) (js is : List ℕ) →
       IsNamed rules entries n js → IsNamed rules entries m is →
+      (rule_at rules n).left ≡ (rule_at rules m).left →
       (offer product rules entries n js).0 ≡ (offer product rules entries m is).0 →
       ◌≡◌ {A = Candidate} (n, js) (m, is)
   pub new :
       (labels : List (List ℕ)) (rules : List (Rule ℕ)) (entries : Entries) → AreNormal rules →
-      SidesEndInHoles rules → IsDeterministic rules →
+      SidesEndInHoles rules → IsDeterministicBelow rules →
       AreFronts product labels rules entries → (taken : List Candidate) (u n : ℕ) (js : List ℕ) →
-      IsNamed rules entries n js →
+      IsNamed rules entries n js → (rule_at rules n).left ≡ u →
+      ((x : Candidate) → Has taken x → (rule_at rules x.0).left ≡ u) →
       ((t : Tree ℕ) → HasTree (entries u) t → IsFrom product rules entries taken t) →
       (Has taken (n, js) → ⊥) → HasTree (entries u) (offer product rules entries n js).0 → ⊥

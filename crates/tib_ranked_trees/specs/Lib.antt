@@ -9,6 +9,7 @@ pub mod Best
 pub mod Levels
 pub mod Pass
 pub mod Firsts
+pub mod Below
 pub mod Lazy
 pub mod Walks
 pub mod Leveling

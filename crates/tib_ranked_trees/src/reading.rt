@@ -133,7 +133,8 @@ impl<'a> Lists<'a> {
         self.ranks[start + i]
     }
 
-    /// No right-hand side has anything below a state. It computes nothing.
+    /// No right-hand side has anything below a state. It changes nothing. Worst case: one step for
+    /// each rule.
     pub fn end_in_states(&self)
         ensures { SidesEndInHoles self.now.rules }
     {

@@ -1,6 +1,6 @@
 use Rattle.std.specs.Prelude.{◌<◌}
 use Rattle.std.proofs.Common.{arith, refl, subst, sym}
-use Rattle.tib_grammar.specs.Forms.{IsDeterministic}
+use Rattle.tib_ranked_trees.specs.Below.{IsDeterministicBelow}
 use Rattle.tib_ranked_trees.specs.Levels.{IsOrderly}
 use Rattle.tib_k_best.specs.Trimmed.{HaveTreesBelow}
 use Rattle.tib_k_best.proofs.Bests.{best_first, best_over, fault_cause}
@@ -28,7 +28,7 @@ pub ask-requires-clause-orderly : goal.ask-requires-clause-orderly
 ask-requires-clause-orderly g c = subst (λ rs. IsOrderly g.S.Semiring.product rs) (sym c.in-Ok.ensures.rules) c.requires.orderly
 
 pub ask-requires-clause-form : goal.ask-requires-clause-form
-ask-requires-clause-form g c = λ is. subst (λ rs. IsDeterministic rs) (sym c.in-Ok.ensures.rules) (c.requires.form is)
+ask-requires-clause-form g c = λ is. subst (λ rs. IsDeterministicBelow rs) (sym c.in-Ok.ensures.rules) (c.requires.form is)
 
 pub returns-then-not-have_trees_below-clause-not : goal.returns-then-not-have_trees_below-clause-not
 returns-then-not-have_trees_below-clause-not g c = λ _ trees.

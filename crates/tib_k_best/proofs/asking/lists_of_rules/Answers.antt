@@ -1,5 +1,5 @@
 use Rattle.std.proofs.Common.{subst, sym}
-use Rattle.tib_grammar.specs.Forms.{IsDeterministic}
+use Rattle.tib_ranked_trees.specs.Below.{IsDeterministicBelow}
 use Rattle.tib_ranked_trees.specs.ListsOf.{ListsOf}
 use Rattle.tib_k_best.specs.Trimmed.{HaveTreesBelow}
 use Rattle.tib_k_best.proofs.Bests.{best_listed}
@@ -7,7 +7,7 @@ use Rattle.tib_k_best.proofs.Counting.{bound_listed, fronts_listed, states_liste
 use Rattle.tib_k_best.proofs.asking.lists_of_rules.Goals as goal
 
 pub list_trees-requires-clause-form : goal.list_trees-requires-clause-form
-list_trees-requires-clause-form g c = λ is. subst (λ (z : ListsOf). IsDeterministic z.rules) (sym c.in-Ok.ensures.empty) (c.requires.form is)
+list_trees-requires-clause-form g c = λ is. subst (λ (z : ListsOf). IsDeterministicBelow z.rules) (sym c.in-Ok.ensures.empty) (c.requires.form is)
 
 pub returns-then-not-could-clause-none : goal.returns-then-not-could-clause-none
 returns-then-not-could-clause-none g c = λ trees.

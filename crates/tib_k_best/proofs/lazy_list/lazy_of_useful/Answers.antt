@@ -1,6 +1,7 @@
 use Rattle.std.specs.Prelude.{◌≡◌, ◌+◌, ◌≤◌, ℕ, List, [], length}
 use Rattle.std.proofs.Common.{arith, sym, subst, get_or}
-use Rattle.tib_grammar.specs.Forms.{AreNormal, IsDeterministic}
+use Rattle.tib_grammar.specs.Forms.{AreNormal}
+use Rattle.tib_ranked_trees.specs.Below.{IsDeterministicBelow}
 use Rattle.tib_grammar.specs.declared.Rule.{Rule}
 use Rattle.tib_grammar_file.specs.Printed.{AreLabelled}
 use Rattle.tib_k_best.specs.Causes.{IsCause}
@@ -11,7 +12,7 @@ use Rattle.tib_k_best.specs.LazyLists.{entries_in}
 use Rattle.tib_ranked_trees.specs.Best.{Costed, IsFrontAt, IsKBest}
 use Rattle.tib_ranked_trees.specs.Levels.{IsOrderly}
 use Rattle.tib_k_best.proofs.Found.{found_is, none_is}
-use Rattle.tib_k_best.proofs.LevelTrimming.{trimmed_best, trimmed_cause, trimmed_form, trimmed_labelled, trimmed_normal, trimmed_orderly, trimmed_trees, useful_lists}
+use Rattle.tib_k_best.proofs.LevelTrimming.{trimmed_best, trimmed_cause, trimmed_below, trimmed_labelled, trimmed_normal, trimmed_orderly, trimmed_trees, useful_lists}
 use Rattle.tib_k_best.proofs.lazy_list.lazy_of_useful.Goals as goal
 
 pub lazy_of_rules-requires-clause-normal : goal.lazy_of_rules-requires-clause-normal
@@ -26,7 +27,7 @@ pub lazy_of_rules-requires-clause-orderly : goal.lazy_of_rules-requires-clause-o
 lazy_of_rules-requires-clause-orderly g c = subst (IsOrderly g.S.Semiring.product) (sym c.deref.ensures.value) (trimmed_orderly g.S.Semiring.product c.args.rules.items c.args.states c.in-Ok.trimmed.states.items c.in-Ok.trimmed.rules.items c.in-Ok.ensures.kept c.requires.orderly)
 
 pub lazy_of_rules-requires-clause-form : goal.lazy_of_rules-requires-clause-form
-lazy_of_rules-requires-clause-form g c = subst IsDeterministic (sym c.deref.ensures.value) (trimmed_form g.S.Semiring.product c.args.rules.items c.args.states c.in-Ok.trimmed.states.items c.in-Ok.trimmed.rules.items c.in-Ok.ensures.kept c.requires.normal c.requires.form)
+lazy_of_rules-requires-clause-form g c = subst IsDeterministicBelow (sym c.deref.ensures.value) (trimmed_below g.S.Semiring.product c.args.rules.items c.args.states c.in-Ok.trimmed.states.items c.in-Ok.trimmed.rules.items c.in-Ok.ensures.kept c.requires.form)
 
 pub unreachable-requires : goal.unreachable-requires
 unreachable-requires g c =

@@ -1,6 +1,6 @@
 use Rattle.std.specs.Prelude.{ℕ, List}
 use Rattle.std.proofs.Common.{subst, sym}
-use Rattle.tib_grammar.specs.Forms.{IsDeterministic}
+use Rattle.tib_ranked_trees.specs.Below.{IsDeterministicBelow}
 use Rattle.tib_grammar.specs.Range.{SidesEndInHoles}
 use Rattle.tib_grammar.specs.declared.Rule.{Rule}
 use Rattle.tib_ranked_trees.specs.Levels.{IsOrderly}
@@ -22,7 +22,7 @@ pub returns-in-Ok-Some-clause-listed : goal.returns-in-Ok-Some-clause-listed
 returns-in-Ok-Some-clause-listed g c =
     let d = c.in-Ok-Some.ensures in
     let orderly = subst (λ (rs : List (Rule ℕ)). IsOrderly g.S.Semiring.product rs) (sym d.grammar.rules) c.requires.orderly in
-    let form = subst (λ (rs : List (Rule ℕ)). IsDeterministic rs) (sym d.grammar.rules) c.requires.form in
+    let form = subst (λ (rs : List (Rule ℕ)). IsDeterministicBelow rs) (sym d.grammar.rules) c.requires.form in
     let leaves = subst (λ (rs : List (Rule ℕ)). SidesEndInHoles rs) (sym d.grammar.rules) c.requires.leaves in
     let taking = rw c.in-Ok-Some.field-0-is at d.drawn in
     on_both c.list.result _ _ _ c.list.ensures.placed c.list.ensures.states
@@ -33,7 +33,7 @@ pub returns-in-Ok-Some-clause-more : goal.returns-in-Ok-Some-clause-more
 returns-in-Ok-Some-clause-more g c =
     let d = c.in-Ok-Some.ensures in
     let orderly = subst (λ (rs : List (Rule ℕ)). IsOrderly g.S.Semiring.product rs) (sym d.grammar.rules) c.requires.orderly in
-    let form = subst (λ (rs : List (Rule ℕ)). IsDeterministic rs) (sym d.grammar.rules) c.requires.form in
+    let form = subst (λ (rs : List (Rule ℕ)). IsDeterministicBelow rs) (sym d.grammar.rules) c.requires.form in
     let leaves = subst (λ (rs : List (Rule ℕ)). SidesEndInHoles rs) (sym d.grammar.rules) c.requires.leaves in
     let taking = rw c.in-Ok-Some.field-0-is at d.drawn in
     on_both c.list.result _ _ _ c.list.ensures.placed c.list.ensures.states
