@@ -133,7 +133,7 @@ fn add_vectors(
 }
 
 impl Holders {
-    /// The positions of the empty order.
+    /// The positions of the empty order. It takes one step and no memory.
     pub fn new(alloc: Global) -> Holders
         ensures { (marks : List Bool) → AreHolders marks [] result.lists.items }
     {
@@ -143,7 +143,8 @@ impl Holders {
     }
 
     /// Adds the positions of an order from one on; the states that are marked have theirs. Err only
-    /// if memory is refused. Cost: one step for each entry of their vectors.
+    /// if memory is refused. Cost: one step for each entry of their vectors, and for each state up
+    /// to the greatest of theirs.
     pub fn extend(
         &mut self,
         alloc: Global,

@@ -55,7 +55,8 @@ pub trait Expand {
     ghost reading: { Reading Self.Key Self.Edge Self.Over Self.Rule };
 
     /// The edges of the seeds, and the seeds. `More` comes exactly where these edges have more
-    /// parts than the budget, `OutOfMemory` only if memory is refused.
+    /// parts than the budget. `OutOfMemory` says nothing of the edges: it comes if memory is
+    /// refused or a number of the code runs out.
     fn seeds(&self, alloc: Global, budget: u64) -> Result<Edges<Self::Key, Self::Over>, ExpandError>
         requires { budget ≤ most_parts }
         ensures listed { IfOk result (ListsSeedEdges (hunted self.now) reading) }
@@ -84,7 +85,8 @@ pub trait Expand {
 
     /// The edges of the position `n` of the order, and their ends. The index is one of the whole
     /// order, which may have later keys than that at `n`. `More` comes exactly where these edges
-    /// have more parts than the budget, `OutOfMemory` only if memory is refused.
+    /// have more parts than the budget. `OutOfMemory` says nothing of the edges: it comes if memory
+    /// is refused or a number of the code runs out.
     fn expand(
         &self,
         alloc: Global,

@@ -72,7 +72,9 @@ impl<P: Drop> Side<P> {
         Side::from_items(SmallVec::from_vec(items))
     }
 
-    /// The same of items that take no memory of their own if they are up to three.
+    /// The same of items that take no memory of their own if they are up to three. `NotATree`
+    /// exactly if they are not the preorder of one tree; no other error comes. Worst case: one
+    /// pass.
     pub fn from_items(items: SmallVec<Item<P>, 3>) -> Result<Side<P>, ShapeError>
         requires { length items.items < 2 ^ 32 }
         ensures side { IfOk result (λ s. preorder_of s ≡ pairs_of items.items) }

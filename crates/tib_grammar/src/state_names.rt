@@ -52,7 +52,8 @@ impl Names {
         Ok(Some(Names { texts: names }))
     }
 
-    /// The texts of a table, which are state names, as names in their order. It takes no memory.
+    /// The texts of a table, which are state names, as names in their order. It takes one step
+    /// and no memory.
     pub fn from_labels(texts: Labels) -> Names
         requires { AreStateNames texts }
         ensures { result ≡ texts }

@@ -51,9 +51,10 @@ pub(crate) fn list_of_rules<S: Semiring>(
 /// The list of the k best trees of rules in normal form, over this number of states, where the
 /// product is strict or each rule costs 0. `ranks` has the place of each label's text in order.
 /// `TreeTooLarge` names a useful state that has among its k best trees one of more than 10,000
-/// nodes; `OutOfMemory` comes if memory is refused or 32-bit numbers run out. Worst case: O(r log r) comparisons of trees for r rules, and that of `ask_best`; twice that, and one
-/// of `trim_rules`, if some state has a large tree, or if k is above 1 and some state below a rule
-/// has no tree.
+/// nodes; `OutOfMemory` comes if memory is refused or 32-bit numbers run out. Worst case: O(r log
+/// r) comparisons of trees for r rules, and that of `ask_best`; twice that, and one of
+/// `trim_rules`, if some state has a large tree, or if k is above 1 and some state below a rule has
+/// no tree.
 pub fn best_of_rules<S: Semiring>(
     alloc: Global,
     rules: &[Rule<u32>],

@@ -14,8 +14,8 @@ pub fn trimmed_has_trees<S: Semiring>()
     ensures { TrimmedHasTrees S.product }
 {}
 
-/// A grammar in deterministic form is deterministic below the root, as `lazy_k_best` requires. So is
-/// its normal form, which has no chain rules: there the start shares right-hand sides with the
+/// A grammar in deterministic form is deterministic below the root, as `lazy_k_best` requires. So
+/// is its normal form, which has no chain rules: there the start shares right-hand sides with the
 /// states to which its chain rules led, as in what `determinize` gives.
 pub fn deterministic_below<S: Semiring>()
     ensures itself { (rules : List (Rule ℕ)) → IsDeterministic rules → IsDeterministicBelow rules }

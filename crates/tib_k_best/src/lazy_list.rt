@@ -183,13 +183,13 @@ fn lazy_of_useful<S: Semiring>(
 }
 
 /// The k best trees of a grammar that is deterministic below the root, as is one in deterministic
-/// form and the normal form of one (law `deterministic_below`). They are those that
-/// `k_best` gives, with the entries of the start and of each useful state that were placed for them:
-/// at most as many as there are such states and nodes of the listed trees. `TreeTooLarge` names a useful state that has among its k
-/// best trees one of more than 10,000 nodes; `OutOfMemory` comes if memory is refused. Worst case:
-/// that of `trim_rules`, a copy of the rules, O(r log r) comparisons of trees for r rules, a pass
-/// over the last listed tree for each tree that is listed, O(log n) comparisons for each entry and
-/// candidate, and O(n log n) comparisons of texts for n labels.
+/// form and the normal form of one (law `deterministic_below`). They are those that `k_best` gives,
+/// with the entries of the start and of each useful state that were placed for them: at most as
+/// many as there are such states and nodes of the listed trees. `TreeTooLarge` names a useful state
+/// that has among its k best trees one of more than 10,000 nodes; `OutOfMemory` comes if memory is
+/// refused. Worst case: that of `trim_rules`, a copy of the rules, O(r log r) comparisons of trees
+/// for r rules, a pass over the last listed tree for each tree that is listed, O(log n) comparisons
+/// for each entry and candidate, and O(n log n) comparisons of texts for n labels.
 pub fn lazy_k_best<S: Semiring>(
     alloc: Global,
     normal: &Normal<S>,

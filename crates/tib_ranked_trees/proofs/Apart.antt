@@ -1,4 +1,5 @@
--- In rules that are deterministic below the root the candidates of a state stand for different trees.
+-- In rules that are deterministic below the root the candidates of a state stand for different
+-- trees.
 use Rattle.std.specs.Prelude.{◌≡◌, ℕ, ◌<◌, ◌⊎◌, Bool, Some, List, [], ◌∷◌, length, refl}
 use Rattle.std.proofs.Common.{arith, ap, sym, ◌∙◌, subst, inl, inr}
 use Rattle.tib_lex.specs.Lists.{Has, Along}

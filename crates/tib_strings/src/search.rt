@@ -54,9 +54,10 @@ impl<'a> Cuts<'a> {
         }
     }
 
-    /// Goes on to the next cut, and returns whether there is one. Err only if memory is refused,
-    /// and then the search is of no further use. Worst case: for each token one step, and for each
-    /// pair one for each word after it and each place between its own and its last one.
+    /// Goes on to the next cut, and returns whether there is one. Err if memory is refused or after
+    /// 2^64 - 1 steps, and then the search is of no further use. Worst case: for each token one
+    /// step, and for each pair one for each word after it and each place between its own and its
+    /// last one.
     pub fn go_on(&mut self) -> Result<bool, AllocError>
         requires { IsSearch self.old }
         ensures { IfOk result (GoesTo self.old self.new) }

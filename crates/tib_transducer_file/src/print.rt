@@ -126,9 +126,9 @@ impl RuleNotation for TransducerRules {
 /// Prints a transducer whose labels are in range of the table: a line with the start's name, and
 /// then a line for each rule. A label is put in quotes where it would read as something else: where
 /// it is empty, has a byte that is no name byte or a full stop, is `->`, or has the form of a
-/// variable. Where costs are weighed, each line ends with the rule's cost. After a failure a prefix
-/// of the text was appended. It takes no memory; its calls nest as deep as the deepest side. Worst
-/// case: O(b) steps for b bytes of text.
+/// variable. Where costs are weighed, each line ends with the rule's cost. It fails only where the
+/// sink does, and a prefix of the text was then appended. It takes no memory; its calls nest as
+/// deep as the deepest side. Worst case: O(b) steps for b bytes of text.
 pub fn print_transducer<S: Semiring, W: Sink>(
     transducer: &Transducer<S>,
     labels: &Labels,
