@@ -77,7 +77,7 @@ fn is_deterministic<S>(alloc: Global, grammar: &Grammar<S>) -> bool
 /// so are the rules of the start and those of all other states by themselves, where the start is in
 /// no right-hand side. If memory is refused, it returns false. Worst case: a few passes over the
 /// items of all rules, where a look-up by hash counts once.
-pub(crate) fn is_deterministic_below<S>(alloc: Global, grammar: &Grammar<S>) -> bool
+pub fn is_deterministic_below<S>(alloc: Global, grammar: &Grammar<S>) -> bool
     ensures { IsTrue result → IsDeterministicBelow grammar.now.rules }
 {
     if is_deterministic(alloc, grammar) {

@@ -25,6 +25,7 @@ mod weights;
 pub use any_grammar::{best_trees, k_best};
 pub use best::best_of_rules;
 pub use error::KBestError;
+pub use form::is_deterministic_below;
 pub use laws::{deterministic_below, trimmed_has_trees};
 pub use lazy_list::{LazyList, lazy_k_best};
 pub use level_best::k_best_by_levels;

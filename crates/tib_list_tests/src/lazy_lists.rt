@@ -1,12 +1,13 @@
-// Lists of best trees of grammars in deterministic form, by `lazy_k_best` and by `k_best`.
+// Lists of best trees of grammars that are deterministic below the root, by `lazy_k_best` and by
+// `k_best`.
 ghost use Rattle.std.specs.Prelude.{[], ◌≡◌, ◌<◌, length};
-ghost use Rattle.tib_grammar.specs.Forms.{IsDeterministic};
 ghost use Rattle.tib_grammar_file.specs.Printed.{AreLabelled};
+ghost use Rattle.tib_ranked_trees.specs.Below.{IsDeterministicBelow};
 
 use crate::texts::{read, write_answer, write_fault, write_list, write_number};
 use std::alloc::{AllocError, Global};
 use tib_cost::MinPlus;
-use tib_k_best::{LazyList, List, deterministic_below, k_best, lazy_k_best};
+use tib_k_best::{LazyList, List, is_deterministic_below, k_best, lazy_k_best};
 use tib_normal::Normal;
 use tib_tree::Labels;
 
@@ -51,7 +52,7 @@ fn write_lists(
     write_counted(told, &lists.into_list(), steps, states, with_steps)
 }
 
-// The k best trees of a grammar in deterministic form by `lazy_k_best`.
+// The k best trees of a grammar that is deterministic below the root by `lazy_k_best`.
 fn write_asked(
     told: &mut String,
     normal: &Normal<MinPlus>,
@@ -60,17 +61,16 @@ fn write_asked(
     with_steps: bool,
 ) -> Result<(), AllocError>
     requires labelled { AreLabelled (length labels.now) normal.now.rules }
-    requires form { IsDeterministic normal.now.rules }
+    requires form { IsDeterministicBelow normal.now.rules }
     requires some { 0 < k }
 {
-    deterministic_below::<MinPlus>();
     match lazy_k_best::<MinPlus>(*told.allocator(), normal, labels, k) {
         Ok(lists) => write_lists(told, lists, normal.grammar().states(), with_steps),
         Err(error) => write_fault(told, error),
     }
 }
 
-// The same if the grammar is in deterministic form.
+// The same if the grammar is deterministic below the root.
 fn write_if_deterministic(
     told: &mut String,
     normal: &Normal<MinPlus>,
@@ -81,10 +81,10 @@ fn write_if_deterministic(
     requires labelled { AreLabelled (length labels.now) normal.now.rules }
     requires some { 0 < k }
 {
-    match normal.grammar().deterministic(*told.allocator()) {
-        Ok(_) => write_asked(told, normal, labels, k, with_steps),
-        Err(_) => told.push_str("not in deterministic form"),
+    if !is_deterministic_below(*told.allocator(), normal.grammar()) {
+        return told.push_str("not deterministic below the root");
     }
+    write_asked(told, normal, labels, k, with_steps)
 }
 
 // The same for the grammar of a text, whose labels go into a table that had none; whether it was
@@ -152,8 +152,13 @@ fn is_listed_as(alloc: Global, text: &str, k: u32, want: &str) -> bool {
 
 const TOY: &str = "q\nq -> S(q q) # 1\nq -> a # 2\n";
 
+// A normal form as `determinize` leads to: chain rules led from the start to p and to r.
+const FINALS: &str =
+    "q\nq -> a # 1\nq -> f(p r) # 2\nq -> b # 5\nq -> c # 6\n\
+    p -> a\np -> f(p r) # 1\nr -> b\nr -> c # 1\n";
+
 // A grammar, how many trees are asked for, and the list with the entries that were placed for it.
-static LISTS: [(&str, u32, &str); 4] = [
+static LISTS: [(&str, u32, &str); 6] = [
     // one tree of one node, of one state
     (TOY, 1, "1/0 # 2; by 1"),
     // each further tree is one more entry
@@ -168,10 +173,23 @@ static LISTS: [(&str, u32, &str); 4] = [
         2,
         "0/2 1/0 3/0 # 0; 0/2 1/0 4/0 # 1; by 6",
     ),
+    // the start shares its right-hand sides with other states
+    (
+        FINALS,
+        3,
+        "0/0 # 1; 1/2 0/0 2/0 # 2; 1/2 0/0 3/0 # 3; by 7",
+    ),
+    // two states below a rule share one
     (
         "q\nq -> f(p)\nq -> f(r)\np -> a\nr -> a\n",
         2,
-        "not in deterministic form",
+        "not deterministic below the root",
+    ),
+    // the start is below a rule
+    (
+        "q\nq -> f(q)\nq -> a\np -> a\n",
+        2,
+        "not deterministic below the root",
     ),
 ];
 
@@ -182,7 +200,7 @@ fn lists_and_steps(rt: HostRuntime) {
     }
 }
 
-static TEXTS: [&str; 5] = [
+static TEXTS: [&str; 6] = [
     "q\nq -> S(q q) # 1\nq -> a # 2\n",
     // a finite list, and a state that occurs twice below a rule
     "q\nq -> f(p p)\np -> a\np -> b # 1\np -> c # 1\n",
@@ -191,6 +209,7 @@ static TEXTS: [&str; 5] = [
     // lists of different lengths below one rule
     "q\nq -> f(p r s)\np -> a\nr -> b\nr -> g(r) # 2\ns -> c # 3\ns -> d\n",
     "q\nq -> f(q r) # 1\nq -> e\nr -> g(q) # 2\nr -> h(r q)\nr -> k # 7\n",
+    FINALS,
 ];
 
 // Whether there are lists of a number of trees, and both are the same.
