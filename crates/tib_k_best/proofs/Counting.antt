@@ -56,7 +56,7 @@ list_read trees (es ∷ ls) (suc q) = list_read trees ls q
 pub are_counted : (x : ListsOf) → IsSound x → 0 < length x.lists → (trees : List (Tree ℕ)) → trees ≡ x.trees → (ls : List (List Entry)) → ls ≡ x.lists → (n : ℕ) → n ≡ sum_by long x.lists → IsCounted trees ls n
 are_counted x s some trees t ls l n e =
     subst (λ (ts : List (Tree ℕ)). IsCounted ts ls n) (sym t) (subst (λ (ms : List (List Entry)). IsCounted x.trees ms n) (sym l)
-    (record { some = some; start = are_listed x s 0 x.trees refl (list_of x 0) refl; counted = e }))
+    (record { some = some; listed = λ q. are_listed x s q x.trees refl (list_of x q) refl; counted = e }))
 
 -- the same over the rules and labels with which the lists began
 

@@ -10,6 +10,7 @@ pub mod NormalBelow
 pub mod NotedSides
 pub mod Queueing
 pub mod Ranking
+pub mod ReadLists
 pub mod Reading
 pub mod Searching
 pub mod Semirings

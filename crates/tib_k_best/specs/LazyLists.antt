@@ -13,10 +13,11 @@ use Rattle.tib_k_best.specs.Listing.{AreListed}
 abbrev pub entries_in : List (List Costed) → ℕ
 entries_in ls = sum_by (λ (ys : List Costed). length ys) ls
 
--- the start has a list, whose trees are there, and the steps are the entries of all lists
+-- the start has a list, the trees of each list are there, and the steps are the entries of all
+-- lists
 pub record IsCounted (trees : List (Tree ℕ)) (ls : List (List Entry)) (steps : ℕ) : Type 0 where
   pub some : 0 < length ls
-  pub start : AreListed trees (get_or ls 0 [])
+  pub listed : (q : ℕ) → AreListed trees (get_or ls q [])
   pub counted : steps ≡ sum_by (λ (es : List Entry). length es) ls
 
 -- the lists of the start and of each useful state, in the order of the states, each a front of its

@@ -1,5 +1,5 @@
 // The k best trees in every semiring.
-ghost use Rattle.std.specs.Prelude.{◌≡◌, ◌⊎◌, ℕ, ◌<◌, List as ListFor, [], false, true, length, IfErr, IfOk, IfSome};
+ghost use Rattle.std.specs.Prelude.{◌≡◌, ℕ, ◌<◌, List as ListFor, [], false, length, IfErr, IfOk, IfSome};
 ghost use Rattle.tib_grammar.specs.Run.{rule_at};
 ghost use Rattle.tib_grammar_file.specs.Printed.{AreLabelled};
 ghost use Rattle.tib_ranked_trees.specs.Best.{Costed, IsKBest};
@@ -24,28 +24,11 @@ use tib_normal::Normal;
 use tib_ranked_trees::label_ranks;
 use tib_tree::Labels;
 
-// Whether the product of 1 and 1 is 1, as it is if the product is the greater factor.
-fn keeps_one<S: Semiring>() -> bool
-    ensures { S.WEIGHTED ≡ true → result ≡ S.LEVELLED }
-{
-    let Some(one) = Cost::new(1) else {
-        return false;
-    };
-    match S::times(one, one) {
-        Some(product) => product == one,
-        None => false,
-    }
-}
-
-// Whether the product is the greater factor and costs matter.
+// Whether the product is the greater factor.
 fn is_levelled<S: Semiring>() -> bool
-    ensures yes { result ≡ true → S.LEVELLED ≡ true }
-    ensures other { result ≡ false → (S.LEVELLED ≡ false) ⊎ (S.WEIGHTED ≡ false) }
+    ensures { result ≡ S.LEVELLED }
 {
-    if !S::SCALE.is_weighted() {
-        return false;
-    }
-    keeps_one::<S>()
+    S::LEVELLED
 }
 
 // The cost of each tree of a list with its place, in order.
@@ -169,9 +152,9 @@ fn best_useful<S: Semiring>(
 /// The k best trees of a grammar, or all if it has fewer, by cost and then in the order of trees,
 /// in any semiring. `TreeTooLarge` names a useful state that has among its k best trees one of more
 /// than 10,000 nodes; if the product is the greater factor, both hold in some level. `OutOfMemory`
-/// comes if memory is refused. Worst case: if the product is the greater factor, that of
-/// `k_best_by_levels`; otherwise that of `trim_rules` and of `best_of_rules`, a copy of the rules,
-/// and O(n log n) comparisons of texts for n labels.
+/// comes if memory is refused or 32-bit numbers run out. Worst case: if the product is the greater
+/// factor, that of `k_best_by_levels`; otherwise that of `trim_rules` and of `best_of_rules`, a
+/// copy of the rules, and O(n log n) comparisons of texts for n labels.
 pub fn k_best<S: Semiring>(
     alloc: Global,
     normal: &Normal<S>,

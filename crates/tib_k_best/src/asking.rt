@@ -88,8 +88,10 @@ fn ask<S: Semiring>(alloc: Global, lists: &mut Lists, k: u32, form: Form) -> Res
     }
 }
 
-// Whether each state below a rule has a tree.
-fn have_trees_below(lists: &Lists) -> bool
+/// Whether each state below a rule has a tree, as `ask_best` and `ask_lazily` of `tib_lazy_lists`
+/// require, and as in a trimmed grammar. It takes no memory. Worst case: one pass over the states
+/// below each rule.
+pub fn have_trees_below(lists: &Lists) -> bool
     requires few { length lists.now.rules < 2 ^ 32 }
     requires sound { IsSound lists.now }
     ensures yes { IsTrue result → AreTrimmed lists.now }

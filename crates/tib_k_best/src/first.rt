@@ -65,11 +65,12 @@ impl Queue {
     }
 }
 
-// Gives each state that has a tree its first one, in the order of costs and sizes (Knuth 1977).
-// `TreeTooLarge` names a state whose first tree has more than 10,000 nodes; `OutOfMemory` comes if
-// memory is refused. After an error the lists are of no use. Worst case: O(r log r) comparisons of
-// trees for r rules, and one pass over the states below each rule.
-pub(crate) fn first_trees<S: Semiring>(alloc: Global, lists: &mut Lists) -> Result<(), KBestError>
+/// Gives each state that has a tree its first one, in the order of costs and sizes (Knuth 1977), as
+/// `ask_best` and `ask_lazily` of `tib_lazy_lists` require. The lists are those of `Lists::new`.
+/// `TreeTooLarge` names a state whose first tree has more than 10,000 nodes; `OutOfMemory` comes if
+/// memory is refused or 32-bit numbers run out. After an error the lists are of no use. Worst case:
+/// O(r log r) comparisons of trees for r rules, and one pass over the states below each rule.
+pub fn first_trees<S: Semiring>(alloc: Global, lists: &mut Lists) -> Result<(), KBestError>
     requires few { length lists.old.rules < 2 ^ 32 }
     requires orderly { IsOrderly S.product lists.old.rules }
     requires sound { IsSound lists.old }

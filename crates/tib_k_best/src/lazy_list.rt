@@ -1,4 +1,4 @@
-// The best trees of a grammar in deterministic form, with few entries for each.
+// The best trees of a grammar that is deterministic below the root, with few entries for each.
 ghost use Rattle.std.specs.Prelude.{◌≡◌, ℕ, ◌<◌, ◌≤◌, ◌+◌, ◌^◌, [], false, length, map, IfErr, IfNone, IfOk, IfSome};
 ghost use Rattle.std.proofs.Common.{get_or};
 ghost use Rattle.tib_grammar.specs.Forms.{AreNormal};
@@ -9,6 +9,7 @@ ghost use Rattle.tib_grammar_file.specs.Printed.{AreLabelled};
 ghost use Rattle.tib_ranked_trees.specs.Ranked.{AreRanksOf};
 ghost use Rattle.tib_ranked_trees.specs.Best.{IsFrontAt, IsKBest};
 ghost use Rattle.tib_ranked_trees.specs.Levels.{IsOrderly};
+ghost use Rattle.tib_ranked_trees.specs.Pass.{no_entry};
 ghost use Rattle.tib_ranked_trees.specs.Held.{IsSound};
 ghost use Rattle.tib_lazy_lists.specs.Demands.{entries_held, nodes_of};
 ghost use Rattle.tib_k_best.specs.Causes.{IsCause, IsUsefulCause};
@@ -22,13 +23,13 @@ use crate::laws::trimmed_has_trees;
 use crate::level::{renamed, trimmed_rules};
 use crate::levels::copied_rules;
 use crate::listed::List;
-use std::alloc::Global;
+use std::alloc::{AllocError, Global};
 use std::marker::Model;
-use tib_cost::Semiring;
+use tib_cost::{Cost, Semiring};
 use tib_grammar::Rule;
 use tib_normal::Normal;
 use tib_ranked_trees::{Entry, Lists, Shared, label_ranks};
-use tib_tree::Labels;
+use tib_tree::{Labels, Tree};
 
 /// The lists of the start and of each useful state, each from its best tree on: that of the start,
 /// and of the others what was needed to make it.
@@ -92,6 +93,41 @@ impl LazyList {
         ensures { result ≡ entries_in self.now }
     {
         self.steps
+    }
+
+    /// How many lists there are: that of the start, and one of each useful state, in the order of
+    /// the states. It takes no memory.
+    pub fn lists(&self) -> usize
+        ensures { result ≡ length self.now }
+    {
+        self.lists.len()
+    }
+
+    /// How many trees a list has, by its place from 0. It takes no memory.
+    pub fn len(&self, place: usize) -> usize
+        requires { place < length self.now }
+        ensures { result ≡ length (get_or self.now place []) }
+    {
+        self.lists[place].len()
+    }
+
+    /// What a tree of a list costs, by its place there from 0. It takes no memory.
+    pub fn cost(&self, place: usize, i: usize) -> Cost
+        requires place { place < length self.now }
+        requires inside { i < length (get_or self.now place []) }
+        ensures { result ≡ (get_or (get_or self.now place []) i no_entry).1 }
+    {
+        self.lists[place][i].cost
+    }
+
+    /// A tree of a list, with all its nodes. Err only if memory is refused. Worst case: O(n) steps
+    /// and memory for n nodes.
+    pub fn tree(&self, alloc: Global, place: usize, i: usize) -> Result<Tree, AllocError>
+        requires place { place < length self.now }
+        requires inside { i < length (get_or self.now place []) }
+        ensures { IfOk result (λ t. t ≡ (get_or (get_or self.now place []) i no_entry).0) }
+    {
+        self.trees.tree(alloc, self.lists[place][i].tree)
     }
 
     /// The list of the start alone. It takes no memory.
@@ -187,9 +223,10 @@ fn lazy_of_useful<S: Semiring>(
 /// with the entries of the start and of each useful state that were placed for them: at most as
 /// many as there are such states and nodes of the listed trees. `TreeTooLarge` names a useful state
 /// that has among its k best trees one of more than 10,000 nodes; `OutOfMemory` comes if memory is
-/// refused. Worst case: that of `trim_rules`, a copy of the rules, O(r log r) comparisons of trees
-/// for r rules, a pass over the last listed tree for each tree that is listed, O(log n) comparisons
-/// for each entry and candidate, and O(n log n) comparisons of texts for n labels.
+/// refused or 32-bit numbers run out. Worst case: that of `trim_rules`, a copy of the rules, O(r
+/// log r) comparisons of trees for r rules, a pass over the last listed tree for each tree that is
+/// listed, O(log n) comparisons for each entry and candidate, and O(n log n) comparisons of texts
+/// for n labels.
 pub fn lazy_k_best<S: Semiring>(
     alloc: Global,
     normal: &Normal<S>,

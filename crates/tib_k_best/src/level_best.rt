@@ -100,8 +100,8 @@ fn rank<S: Semiring>(
 /// in a semiring whose product is the greater factor: the trees below the least level with k, and
 /// the first of that level that cost as much. `TreeTooLarge` names a state that is useful in some
 /// level and has there among its k best trees one of more than 10,000 nodes; `OutOfMemory` comes if
-/// memory is refused. Worst case: that of `best_of_rules` for O(log r) levels of r rules, which are
-/// copied and trimmed, and of `weigh` for 2k trees.
+/// memory is refused or 32-bit numbers run out. Worst case: that of `best_of_rules` for O(log r)
+/// levels of r rules, which are copied and trimmed, and of `weigh` for 2k trees.
 pub fn k_best_by_levels<S: Semiring>(
     alloc: Global,
     normal: &Normal<S>,

@@ -23,8 +23,10 @@ mod settling;
 mod weights;
 
 pub use any_grammar::{best_trees, k_best};
+pub use asking::have_trees_below;
 pub use best::best_of_rules;
 pub use error::KBestError;
+pub use first::first_trees;
 pub use form::is_deterministic_below;
 pub use laws::{deterministic_below, trimmed_has_trees};
 pub use lazy_list::{LazyList, lazy_k_best};

@@ -153,8 +153,7 @@ fn is_listed_as(alloc: Global, text: &str, k: u32, want: &str) -> bool {
 const TOY: &str = "q\nq -> S(q q) # 1\nq -> a # 2\n";
 
 // A normal form as `determinize` leads to: chain rules led from the start to p and to r.
-const FINALS: &str =
-    "q\nq -> a # 1\nq -> f(p r) # 2\nq -> b # 5\nq -> c # 6\n\
+const FINALS: &str = "q\nq -> a # 1\nq -> f(p r) # 2\nq -> b # 5\nq -> c # 6\n\
     p -> a\np -> f(p r) # 1\nr -> b\nr -> c # 1\n";
 
 // A grammar, how many trees are asked for, and the list with the entries that were placed for it.
@@ -174,11 +173,7 @@ static LISTS: [(&str, u32, &str); 6] = [
         "0/2 1/0 3/0 # 0; 0/2 1/0 4/0 # 1; by 6",
     ),
     // the start shares its right-hand sides with other states
-    (
-        FINALS,
-        3,
-        "0/0 # 1; 1/2 0/0 2/0 # 2; 1/2 0/0 3/0 # 3; by 7",
-    ),
+    (FINALS, 3, "0/0 # 1; 1/2 0/0 2/0 # 2; 1/2 0/0 3/0 # 3; by 7"),
     // two states below a rule share one
     (
         "q\nq -> f(p)\nq -> f(r)\np -> a\nr -> a\n",
