@@ -38,7 +38,7 @@ fn copied_side(alloc: Global, side: &Side<u32>) -> Result<Side<u32>, AllocError>
     }
     match Side::from_preorder(items) {
         Ok(copy) => Ok(copy),
-        Err(_) => Err(AllocError),
+        Err(_) => unreachable!(),
     }
 }
 
