@@ -185,11 +185,10 @@ pub fn k_best<S: Semiring>(
 }
 
 /// The same list, with the same errors, without trimming if each state below a rule has a tree, as
-/// in a trimmed grammar. Few entries are placed if it is deterministic below the root, or known to
-/// be so: in deterministic form, or its normal form. Worst case: if the product is the greater
-/// factor, that of `k_best_by_levels`. Otherwise that of `lazy_k_best` without trimming if the
-/// grammar is so, and of `best_of_rules` if it is not, and in addition that of `k_best` if some
-/// state has a large tree, or some state below a rule has none.
+/// in a trimmed grammar. Few entries are placed if `is_deterministic_below` returns true. Worst
+/// case: if the product is the greater factor, that of `k_best_by_levels`. Otherwise that of
+/// `lazy_k_best` without trimming if it returns true, and of `best_of_rules` if it does not, and in
+/// addition that of `k_best` if some state has a large tree, or some state below a rule has none.
 pub fn best_trees<S: Semiring>(
     alloc: Global,
     normal: &Normal<S>,
