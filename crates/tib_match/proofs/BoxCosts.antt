@@ -2,17 +2,16 @@
 use Rattle.std.specs.Prelude.{◌≡◌, ◌⊎◌, ℕ, ◌+◌, ◌<◌, ◌≤◌, nat_le, Bool, true, false, List, [], ◌∷◌, ◌++◌, length, map, replicate, Option, None, Some, if◌then◌else◌, refl}
 use Rattle.std.proofs.Common.{zero, suc, arith, ap, sym, ◌∙◌, subst, inl, inr}
 use Rattle.std.proofs.lemmas.Bool.Decides.{nat_tests}
-use Rattle.tib_lex.specs.Lists.{Has}
 use Rattle.tib_lex.proofs.Lists.{some_same}
 use Rattle.tib_cost.specs.Semiring.{ProductLaws, most, cut}
-use Rattle.tib_cost.specs.Least.{IsLeast, IsMember, AtMost, Products, times}
+use Rattle.tib_cost.specs.Least.{IsLeast, IsMember, AtMost, times}
 use Rattle.tib_cost.proofs.Least.{IsLeast-one, IsLeast-none, at_least_right, grows_both}
 use Rattle.tib_grammar.specs.Sides.{Symbol, label, hole, holes}
 use Rattle.tib_grammar.specs.Run.{rule_at}
 use Rattle.tib_grammar.specs.Forms.{AreNormal}
 use Rattle.tib_grammar.specs.declared.Rule.{Rule}
 use Rattle.tib_normal.specs.Rules.{positions_with}
-use Rattle.tib_match.specs.MatchLists.{ReadsRule, IsReadCost}
+use Rattle.tib_match.specs.MatchLists.{IsReadCost}
 use Rattle.tib_match.specs.Boxes.{cost_at, cost_along, spanned, all_spanned, Inside, IsReadBox, IsColumn}
 use Rattle.tib_match.specs.declared.hole_cost.HoleCost.{HoleCost}
 use Rattle.tib_match.specs.declared.hole_cost.HoleCost.TheVariants.{Free}

@@ -2,10 +2,10 @@
 use Rattle.std.specs.Prelude.{◌≡◌, ◌⊎◌, ℕ, ◌+◌, ◌<◌, ◌≤◌, Bool, List, [], ◌∷◌, ◌++◌, length, map, reverse, replicate, Option, None, Some, refl}
 use Rattle.std.specs.Prelude.{OnOk}
 use Rattle.std.specs.declared.result.Result.{Result}
-use Rattle.std.proofs.Common.{Ok, Err, zero, suc, arith, get_or, set, ap, sym, ◌∙◌, subst, inl, inr, append_assoc, append-nil}
+use Rattle.std.proofs.Common.{Ok, Err, zero, suc, arith, get_or, set, ap, sym, ◌∙◌, subst, inl, inr, append_assoc}
 use Rattle.std.proofs.lemmas.List.{reverse-append, map-append, length-replicate, length-map, length-set}
 use Rattle.std.proofs.lemmas.Cmp.{ranked}
-use Rattle.std.specs.Ordering.{MatchOrdering, nat_cmp, ordering_then}
+use Rattle.std.specs.Ordering.{MatchOrdering, nat_cmp}
 use Rattle.std.specs.Cmp.Lexicographic.{slice_cmp}
 use Rattle.std.specs.declared.cmp.Ordering.{Ordering}
 use Rattle.std.specs.declared.cmp.Ordering.TheVariants.{Less, Equal, Greater}
@@ -13,8 +13,8 @@ use Rattle.tib_lex.specs.Lists.{Has, Each, Ascends}
 use Rattle.tib_lex.proofs.Lists.{some_same, each_append}
 use Rattle.tib_lex.proofs.Members.{each_has, each_of, each_more, has_left, has_right, has_either}
 use Rattle.tib_cost.specs.Semiring.{ProductLaws, most}
-use Rattle.tib_cost.specs.Least.{IsLeast, AtMost, times}
-use Rattle.tib_cost.proofs.Least.{IsLeast-same, IsLeast-unique, at_least_right, grows_both}
+use Rattle.tib_cost.specs.Least.{IsLeast, times}
+use Rattle.tib_cost.proofs.Least.{IsLeast-unique, at_least_right, grows_both}
 use Rattle.tib_tree.specs.Trees.{only, preorder_of}
 use Rattle.tib_grammar.specs.Sides.{Symbol, label, hole, holes, holes_of, HolesAreLeaves, Side as SideFor}
 use Rattle.tib_grammar.specs.Run.{rule_at}
@@ -24,8 +24,8 @@ use Rattle.tib_grammar.specs.declared.Rule.{Rule}
 use Rattle.tib_grammar.proofs.Sides.{holes_of-label}
 use Rattle.tib_match.specs.Matches.{IsMatch, IsMatchCost}
 use Rattle.tib_match.specs.MatchLists.{IsReadCost}
-use Rattle.tib_match.specs.Boxes.{cost_at, cost_along, all_spanned, Inside, IsReadBox}
-use Rattle.tib_match.specs.Searching.{IsWithin, ListsAscend, AreMatchesWhere, AreMoreWhere, no_span, IsOpen, IsNarrow, IsWide, singles, lows, IsBefore, IsUnderway, IsFirstWide, AreNarrow, HasHalves, IsFoundAt, Takes}
+use Rattle.tib_match.specs.Boxes.{cost_at, all_spanned, Inside, IsReadBox}
+use Rattle.tib_match.specs.Searching.{IsWithin, ListsAscend, AreMatchesWhere, AreMoreWhere, no_span, IsOpen, IsNarrow, singles, lows, IsBefore, IsUnderway, IsFirstWide, AreNarrow, HasHalves, IsFoundAt, Takes}
 use Rattle.tib_match.specs.declared.hole_cost.HoleCost.{HoleCost}
 use Rattle.tib_match.specs.declared.hole_cost.HoleCost.TheVariants.{Free}
 use Rattle.tib_match.specs.declared.spans.Span.{Span}

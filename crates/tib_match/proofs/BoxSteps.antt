@@ -1,7 +1,7 @@
 -- Columns item by item: each step of the reading from the last item to the first.
-use Rattle.std.specs.Prelude.{◌≡◌, ℕ, ◌+◌, ◌<◌, ◌≤◌, Bool, List, [], ◌∷◌, ◌++◌, length, map, drop, reverse, Option, refl}
-use Rattle.std.proofs.Common.{arith, get_or, ap, sym, ◌∙◌, subst, append-nil}
-use Rattle.std.proofs.lemmas.List.{map-append, reverse-append, length-map, length-reverse, at_drop_more, drop_all, take-append-drop}
+use Rattle.std.specs.Prelude.{◌≡◌, ℕ, ◌+◌, ◌<◌, Bool, List, [], ◌∷◌, ◌++◌, length, map, drop, reverse, Option, refl}
+use Rattle.std.proofs.Common.{arith, get_or, ap, sym, ◌∙◌, subst}
+use Rattle.std.proofs.lemmas.List.{map-append, reverse-append, length-map, length-reverse, at_drop_more, drop_all}
 use Rattle.tib_cost.specs.Semiring.{ProductLaws}
 use Rattle.tib_cost.specs.Least.{IsLeast}
 use Rattle.tib_grammar.specs.Sides.{Symbol, label, hole}

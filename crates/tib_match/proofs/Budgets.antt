@@ -1,27 +1,28 @@
 -- Matches where holes cost nothing.
-use Rattle.std.specs.Prelude.{◌≡◌, ℕ, ◌+◌, ◌≤◌, ◌<◌, Bool, List, [], ◌∷◌, ◌++◌, length, map, take, replicate, Some, refl}
-use Rattle.std.proofs.lemmas.List.{take_more, take_all, replicate_more}
+use Rattle.std.specs.Prelude.{◌≡◌, ℕ, ◌+◌, ◌≤◌, ◌<◌, Bool, List, [], ◌∷◌, ◌++◌, length, map, take, replicate, None, Some, refl}
+use Rattle.std.proofs.lemmas.List.{take_more, take_all, replicate_more, length-map}
 use Rattle.std.proofs.Common.{suc, get_or, arith, ap, sym, ◌∙◌, subst}
-use Rattle.tib_lex.specs.Lists.{Has, Each}
 use Rattle.tib_lex.proofs.Lists.{each_weaker}
 use Rattle.tib_cost.specs.Semiring.{ProductLaws, most}
 use Rattle.tib_tree.specs.Trees.{only, preorder_of}
 use Rattle.tib_grammar.specs.Sides.{HolesAreLeaves, holes, Side as SideFor}
 use Rattle.tib_grammar.specs.Run.{rule_at}
 use Rattle.tib_grammar.specs.Forms.{AreNormal}
-use Rattle.tib_grammar.specs.Items.{pair_of, pairs_of, holes_in}
+use Rattle.tib_grammar.specs.Items.{pairs_of, holes_in}
 use Rattle.tib_grammar.specs.declared.Rule.{Rule}
 use Rattle.tib_grammar.specs.declared.Item.{Item}
 use Rattle.tib_grammar.specs.declared.Item.TheVariants.{Label, Hole}
 use Rattle.tib_match.specs.Matches.{IsMatch}
 use Rattle.tib_match.specs.MatchLists.{AreMatches, IsReadCost}
-use Rattle.tib_match.specs.Searching.{IsWithin, AnswersWhere, AreMatchesWhere, AreMoreWhere}
+use Rattle.tib_match.specs.Searching.{IsWithin, AnswersWhere, AreMatchesWhere}
 use Rattle.tib_match.specs.declared.hole_cost.HoleCost.TheVariants.{Free}
 use Rattle.tib_match.specs.declared.within.Within.{Within}
 use Rattle.tib_match.specs.declared.within.Within.TheVariants.{All, More}
 use Rattle.tib_match.proofs.Reading.{matches_are_read}
 use Rattle.tib_match.proofs.Steps.{neutral_right}
-use Rattle.tib_match.proofs.BoxCosts.{frees}
+use Rattle.tib_match.specs.Boxes.{cost_at}
+use Rattle.tib_match.specs.declared.hole_cost.HoleCost.{HoleCost}
+use Rattle.tib_match.proofs.BoxCosts.{frees, along_other}
 
 -- all matches are all that count
 pub all_where :
@@ -54,6 +55,20 @@ module _
         within = omega (arith, neutral_right laws (product above c), b);
       }
 
+  -- nothing is within it where there are not as many costs as holes
+  pub none_where : (number : ℕ) (costs : List HoleCost) → (length costs ≡ length (holes_in items) → ⊥) → (ms : List (List ℕ × ℕ)) → ms ≡ [] →
+      AreMatchesWhere product rules side q (IsWithin product above costs) ms
+  none_where number costs other [] e = record {
+    ascend = tt;
+    least = tt;
+    whole = λ ss c m w.
+        let read = (matches_are_read laws rules normal side leaves q ss c).0 m.attained.0 in
+        let long = reads_long items (q ∷ []) ss c (subst (λ xs. IsReadCost product rules xs (q ∷ []) ss c) are_items read) in
+        let bad : None ≡ Some w.beside = along_other product (map cost_at costs) ss (λ e. other (sym (length-map costs cost_at) ∙ e ∙ long)) ∙ w.is_beside in
+        absurd (cc);
+  }
+  none_where number costs other (m ∷ ms) e = absurd (cc)
+
   pub free_where : (number : ℕ) (answer : Within) → AnswersWhere product rules side q (IsWithin product above (replicate (length (holes_in items)) Free)) number answer →
       AnswersWhere product rules side q (λ m. product above m.1 ≤ most) number answer
   free_where number (All ms) are = record { ascend = are.ascend; least = are.least; whole = λ ss c m b. are.whole ss c m (free_within ss c m b) }
@@ -66,7 +81,8 @@ module _
     more = are.more;
   }
 
-holes_joined : {P : Type 0} (xs ys : List (Item P)) → length (holes_in (xs ++ ys)) ≡ length (holes_in xs) + length (holes_in ys)
+-- the holes of some items and of others
+pub holes_joined : {P : Type 0} (xs ys : List (Item P)) → length (holes_in (xs ++ ys)) ≡ length (holes_in xs) + length (holes_in ys)
 holes_joined [] ys = omega arith
 holes_joined (Label f rank ∷ xs) ys = holes_joined xs ys
 holes_joined (Hole x ∷ xs) ys = ap suc (holes_joined xs ys) ∙ omega arith

@@ -2,8 +2,7 @@
 use Rattle.std.specs.Prelude.{◌≡◌, ◌⊎◌, ℕ, ◌+◌, ◌-◌, ◌<◌, ◌≤◌, min, List, [], ◌∷◌, ◌++◌, length, map, take, drop, reverse, replicate, Option, None, Some, refl}
 use Rattle.std.proofs.Common.{zero, suc, arith, get_or, set, ap, sym, ◌∙◌, subst, inl, inr}
 use Rattle.std.proofs.lemmas.List.{length-set, get_or-set_same, get_or-set_other, map-append, reverse-append, take_more, take_all, length-map, length-reverse, at_drop_more, get_or_push, get_or_append_left, get_or_past}
-use Rattle.tib_lex.specs.Lists.{Has, Each}
-use Rattle.tib_lex.proofs.Lists.{some_same}
+use Rattle.tib_lex.specs.Lists.{Each}
 use Rattle.tib_lex.proofs.Members.{each_has, has_at, has_left, has_right, has_either}
 use Rattle.tib_lex.proofs.Numbers.{same_or_other, below_cases}
 use Rattle.tib_cost.specs.Least.{AtMost, times, lesser}

@@ -1,14 +1,12 @@
 -- Positions of rules of other states give nothing.
 use Rattle.tib_match.proofs.Placing.{last_turned}
-use Rattle.std.specs.Prelude.{Some, reverse, slice_get, ◌≡◌, ◌⊎◌, ℕ, ◌+◌, ◌-◌, ◌<◌, ◌≤◌, nat_eq, false, List, [], ◌∷◌, ◌++◌, length, take, drop, if◌then◌else◌, refl}
+use Rattle.std.specs.Prelude.{Some, reverse, slice_get, ◌≡◌, ◌⊎◌, ℕ, ◌+◌, ◌-◌, ◌<◌, ◌≤◌, nat_eq, false, List, [], ◌∷◌, ◌++◌, length, take, drop, refl}
 use Rattle.std.proofs.Common.{zero, suc, arith, ap, sym, ◌∙◌, subst, get_or, inl, inr, append_assoc}
 use Rattle.std.proofs.lemmas.Bool.Decides.{nat_tests}
-use Rattle.tib_lex.specs.Lists.{Has, Each, Ascends}
-use Rattle.tib_grammar.specs.Run.{rule_at, no_rule}
+use Rattle.tib_lex.specs.Lists.{Each}
+use Rattle.tib_grammar.specs.Run.{rule_at}
 use Rattle.tib_grammar.specs.declared.Rule.{Rule}
-use Rattle.tib_grammar.proofs.Members.{each_has, each_of, has_at, at_has}
-use Rattle.tib_normal.specs.Rules.{positions_with, positions_from, is_over}
-use Rattle.tib_normal.proofs.Pairwise.{Ascends-at}
+use Rattle.tib_grammar.proofs.Members.{each_has, has_at}
 use Rattle.tib_match.specs.PartialMatches.{Partial}
 use Rattle.tib_match.specs.Leading.{placed, placed_at, all_placed}
 use Rattle.tib_match.specs.Narrowing.{LeftsAscend}

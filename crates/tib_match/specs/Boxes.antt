@@ -1,5 +1,5 @@
 -- Boxes: a span of states for each hole of a side; and what matches in them cost.
-use Rattle.std.specs.Prelude.{◌≡◌, ℕ, ◌+◌, ◌<◌, ◌≤◌, nat_le, List, [], ◌∷◌, ◌++◌, length, map, drop, reverse, Option, None, Some, if◌then◌else◌}
+use Rattle.std.specs.Prelude.{◌≡◌, ℕ, ◌+◌, ◌<◌, ◌≤◌, nat_le, List, [], ◌∷◌, ◌++◌, length, map, reverse, Option, None, Some, if◌then◌else◌}
 use Rattle.std.proofs.Common.{get_or}
 use Rattle.tib_lex.specs.Lists.{Has}
 use Rattle.tib_cost.specs.Least.{IsLeast, AtMost, Products, times, lesser}

@@ -1,10 +1,11 @@
 //! The least cost of a match in a box, from a column of least costs by state for each node of the
 //! side.
 
-ghost use Rattle.std.specs.Prelude.{◌≡◌, ℕ, ◌∷◌, [], List, drop, IfOk, OnOk};
+ghost use Rattle.std.specs.Prelude.{◌≡◌, ℕ, ◌<◌, ◌≤◌, ◌+◌, ◌-◌, ◌∷◌, [], List, drop, length, IfOk, OnOk};
 ghost use Rattle.tib_cost.specs.Least.{IsLeast};
 ghost use Rattle.tib_grammar.specs.Sides.{Symbol};
-ghost use Rattle.tib_grammar.specs.Items.{pair_of, pairs_of};
+ghost use Rattle.tib_tree.specs.Trees.{HasChildren};
+ghost use Rattle.tib_grammar.specs.Items.{pair_of, pairs_of, holes_in};
 ghost use Rattle.tib_match.specs.Boxes.{all_spanned, IsReadBox, AreColumns};
 ghost use Rattle.tib_match.specs.Searching.{StacksLabel, StacksHole};
 
@@ -25,12 +26,10 @@ fn stack_label<S: Semiring>(
     rank: u32,
     columns: &mut Vec<Column>,
 ) -> Result<(), AllocError>
+    requires { rank ≤ length columns.old.items }
     ensures { OnOk result (StacksLabel S.product normal.now.rules label rank columns.old.items
         columns.new.items) }
 {
-    if columns.len() < rank as usize {
-        return Err(AllocError);
-    }
     let from = columns.len() - rank as usize;
     let column = label_column(alloc, normal, label, rank, &columns[from..])?;
     columns.truncate(from);
@@ -46,12 +45,12 @@ fn stack_hole<S: Semiring>(
     holes: usize,
     columns: &mut Vec<Column>,
 ) -> Result<usize, AllocError>
+    requires some { 0 < holes }
+    requires costs { holes ≤ length costs.now }
+    requires spans { holes ≤ length spans.now }
     ensures { IfOk result (λ left. StacksHole costs.now spans.now holes left columns.old.items
         columns.new.items) }
 {
-    if holes == 0 || holes > costs.len() || holes > spans.len() {
-        return Err(AllocError);
-    }
     let left = holes - 1;
     let column = hole_column::<S>(alloc, &costs[left], &spans[left])?;
     columns.push(column)?;
@@ -69,7 +68,14 @@ fn stack_item<S: Semiring, P>(
     holes: usize,
     columns: &mut Vec<Column>,
 ) -> Result<usize, AllocError>
-    ensures { IfOk result (λ left. (xs : List (Symbol ℕ P × ℕ)) →
+    requires room { (pair_of item.now).1 ≤ length columns.old.items }
+    requires some { length (holes_in (item.now ∷ [])) ≤ holes }
+    requires costs { holes ≤ length costs.now }
+    requires spans { holes ≤ length spans.now }
+    ensures many { IfOk result (λ left. length columns.new.items
+        ≡ length columns.old.items - (pair_of item.now).1 + 1) }
+    ensures left { IfOk result (λ left. left + length (holes_in (item.now ∷ [])) ≡ holes) }
+    ensures columns { IfOk result (λ left. (xs : List (Symbol ℕ P × ℕ)) →
         AreColumns S.product normal.now.rules xs (all_spanned (drop holes spans.now)
         (drop holes costs.now)) columns.old.items →
         AreColumns S.product normal.now.rules (pair_of item.now ∷ xs)
@@ -86,9 +92,9 @@ fn stack_item<S: Semiring, P>(
 }
 
 /// The least cost of running the grammar from a state along the items of a side down to states in
-/// their spans, with what these states cost; none where there is none of at most `MOST`. Err if
-/// memory is refused, and where there are not as many costs and spans as holes. Cost: for each item
-/// one pass over the states, and one over the rules of its label.
+/// their spans, with what these states cost; none where there is none of at most `MOST`. Err only
+/// if memory is refused. Cost: for each item one pass over the states, and one over the rules of
+/// its label.
 pub(crate) fn least_cost<S: Semiring, P>(
     alloc: Global,
     normal: &Normal<S>,
@@ -97,6 +103,9 @@ pub(crate) fn least_cost<S: Semiring, P>(
     costs: &[HoleCost],
     spans: &[Span],
 ) -> Result<Option<Cost>, AllocError>
+    requires nested { HasChildren (pairs_of items.now) }
+    requires costs { length costs.now ≡ length (holes_in items.now) }
+    requires spans { length spans.now ≡ length (holes_in items.now) }
     ensures { IfOk result (IsLeast (IsReadBox S.product normal.now.rules (pairs_of items.now)
         (state ∷ []) (all_spanned spans.now costs.now))) }
 {
@@ -106,9 +115,6 @@ pub(crate) fn least_cost<S: Semiring, P>(
     while i > 0 {
         i -= 1;
         holes = stack_item(alloc, normal, &items[i], costs, spans, holes, &mut columns)?;
-    }
-    if holes > 0 {
-        return Err(AllocError);
     }
     let root = [Item::Hole(state)];
     Ok(product_along::<S>(&columns, &root))

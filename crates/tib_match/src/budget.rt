@@ -3,12 +3,13 @@
 ghost use Rattle.std.specs.Prelude.{◌≡◌, ◌≤◌, ◌<◌, length, replicate, IfOk};
 ghost use Rattle.tib_cost.specs.Semiring.{most as greatest};
 ghost use Rattle.tib_grammar.specs.Items.{holes_in};
+ghost use Rattle.tib_grammar.specs.Sides.{holes_of};
 ghost use Rattle.tib_match.specs.Searching.{AnswersWhere, IsWithin};
 ghost use Rattle.tib_match.specs.declared.hole_cost.HoleCost.TheVariants.{Free};
 
 use crate::counting::{has_more, matches_shown};
 use crate::finding::few_matches;
-use crate::hole_cost::HoleCost;
+use crate::hole_cost::{HoleCost, is_each_priced};
 use crate::searching::search_matches;
 use crate::within::Within;
 use std::alloc::{AllocError, Global};
@@ -32,12 +33,38 @@ fn partial_matches(most: u64) -> u64 {
     2 * most + 1000
 }
 
+// What `matches_beyond_few` gives, where there are as many costs as holes.
+fn beyond_few<S: Semiring, P>(
+    alloc: Global,
+    normal: &Normal<S>,
+    state: u32,
+    side: &Side<P>,
+    above: Cost,
+    costs: &[HoleCost],
+    most: u64,
+) -> Result<Within, AllocError>
+    requires state { state < length normal.now.names }
+    requires costs { length costs.now ≡ length (holes_of side.now) }
+    ensures { IfOk result (AnswersWhere S.product normal.now.rules side.now state
+        (IsWithin S.product above costs.now) most) }
+{
+    if has_more(alloc, normal, state, side, above, costs, most)? {
+        return Ok(Within::More);
+    }
+    let shown = matches_shown(alloc, normal, state, side, costs)?;
+    let wanted = most.min(shown.saturating_add(UNSEEN_MATCHES));
+    if let Some(few) = few_matches(alloc, normal, state, side, partial_matches(wanted))? {
+        return Ok(Within::All(few));
+    }
+    search_matches(alloc, normal, state, side, above, costs, most)
+}
+
 /// What `search_matches` gives, for a side on which `few_matches` gave up at a small number. `More`
 /// comes at once where one pass over the side shows that there are more than `most` matches. Else
 /// it calls `few_matches` with partial matches for those that this pass shows and 50,000 more, at
 /// most for `most` of them, and where that gives up too `search_matches`. So a side with few
-/// matches and very many partial ones is searched. Err if memory is refused, or if there are not as
-/// many costs as holes.
+/// matches and very many partial ones is searched. Err only if memory is refused, or if a search
+/// takes 2^64 - 1 steps.
 ///
 /// Cost: for each item two passes over the states, and two over the rules of its label; and where
 /// this does not show that there are more, that of `few_matches` and of `search_matches`.
@@ -54,15 +81,11 @@ pub fn matches_beyond_few<S: Semiring, P>(
     ensures { IfOk result (AnswersWhere S.product normal.now.rules side.now state
         (IsWithin S.product above costs.now) most) }
 {
-    if has_more(alloc, normal, state, side, above, costs, most)? {
-        return Ok(Within::More);
+    normal.grammar();
+    if !is_each_priced(side.items(), costs) {
+        return Ok(Within::All(Vec::new(alloc)));
     }
-    let shown = matches_shown(alloc, normal, state, side, costs)?;
-    let wanted = most.min(shown.saturating_add(UNSEEN_MATCHES));
-    if let Some(few) = few_matches(alloc, normal, state, side, partial_matches(wanted))? {
-        return Ok(Within::All(few));
-    }
-    search_matches(alloc, normal, state, side, above, costs, most)
+    beyond_few(alloc, normal, state, side, above, costs, most)
 }
 
 // A free cost for each hole among some items.
@@ -102,5 +125,5 @@ pub fn matches_within<S: Semiring, P>(
         return Ok(Within::All(few));
     }
     let costs = free_costs(alloc, side.items())?;
-    matches_beyond_few(alloc, normal, state, side, above, &costs, most)
+    beyond_few(alloc, normal, state, side, above, &costs, most)
 }

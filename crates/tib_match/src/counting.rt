@@ -1,7 +1,9 @@
 //! A lower bound on how many matches a side has, in one pass over its items.
 
-ghost use Rattle.std.specs.Prelude.{◌≡◌, ℕ, ◌<◌, ◌≤◌, ◌∷◌, [], drop, length, IfOk, IfSome, OnOk, IsTrue};
-ghost use Rattle.tib_grammar.specs.Items.{pair_of, pairs_of};
+ghost use Rattle.std.specs.Prelude.{◌≡◌, ℕ, ◌<◌, ◌≤◌, ◌+◌, ◌-◌, ◌∷◌, [], drop, length, IfOk, IfSome, OnOk, IsTrue};
+ghost use Rattle.tib_tree.specs.Trees.{HasChildren};
+ghost use Rattle.tib_grammar.specs.Sides.{holes_of};
+ghost use Rattle.tib_grammar.specs.Items.{pair_of, pairs_of, holes_in};
 ghost use Rattle.tib_normal.specs.Rules.{positions_with};
 ghost use Rattle.tib_match.specs.Counting.{AreCounted, BeginWithHoles, HasLists, StacksChain, StacksOne};
 ghost use Rattle.tib_match.specs.Searching.{AreMoreWhere, IsWithin};
@@ -40,13 +42,12 @@ fn stack_label<S: Semiring>(
     front: u32,
     columns: &mut Vec<Plenties>,
 ) -> Result<(), AllocError>
-    ensures { OnOk result (StacksChain S.product normal.now.rules
+    requires { rank ≤ length columns.old.items }
+    ensures many { OnOk result (length columns.new.items ≡ length columns.old.items - rank + 1) }
+    ensures stacked { OnOk result (StacksChain S.product normal.now.rules
         (positions_with label rank normal.now.rules) front columns.old.items
         columns.new.items) }
 {
-    if columns.len() < rank as usize {
-        return Err(AllocError);
-    }
     let from = columns.len() - rank as usize;
     let below = &columns[from..];
     let column = label_plenties(alloc, normal, label, rank, front as usize, below)?;
@@ -63,12 +64,11 @@ fn stack_hole<S: Semiring>(
     holes: usize,
     columns: &mut Vec<Plenties>,
 ) -> Result<usize, AllocError>
+    requires some { 0 < holes }
+    requires costs { holes ≤ length costs.now }
     ensures { IfOk result (λ left. StacksOne costs.now Free holes left columns.old.items
         columns.new.items) }
 {
-    if holes == 0 || holes > costs.len() {
-        return Err(AllocError);
-    }
     let left = holes - 1;
     let column = hole_plenties(alloc, normal, &costs[left])?;
     columns.push(column)?;
@@ -86,7 +86,13 @@ fn stack_item<S: Semiring, P>(
     holes: usize,
     columns: &mut Vec<Plenties>,
 ) -> Result<usize, AllocError>
-    ensures { IfOk result (λ left.
+    requires room { (pair_of item.now).1 ≤ length columns.old.items }
+    requires some { length (holes_in (item.now ∷ [])) ≤ holes }
+    requires costs { holes ≤ length costs.now }
+    ensures many { IfOk result (λ left. length columns.new.items
+        ≡ length columns.old.items - (pair_of item.now).1 + 1) }
+    ensures left { IfOk result (λ left. left + length (holes_in (item.now ∷ [])) ≡ holes) }
+    ensures columns { IfOk result (λ left.
         AreCounted S.product normal.now.rules (pairs_of others.now) (drop holes costs.now)
         columns.old.items →
         AreCounted S.product normal.now.rules (pair_of item.now ∷ pairs_of others.now)
@@ -112,6 +118,8 @@ fn count_lists<S: Semiring, P>(
     items: &[Item<P>],
     costs: &[HoleCost],
 ) -> Result<Option<Plenty>, AllocError>
+    requires nested { HasChildren (pairs_of items.now) }
+    requires costs { length costs.now ≡ length (holes_in items.now) }
     ensures { IfOk result (λ found. IfSome found (λ p. HasLists S.product normal.now.rules
         (pairs_of items.now) costs.now (state ∷ []) p.count p.worst)) }
 {
@@ -123,17 +131,13 @@ fn count_lists<S: Semiring, P>(
         let others = &items[i + 1..];
         holes = stack_item(alloc, normal, &items[i], others, costs, holes, &mut columns)?;
     }
-    if holes > 0 {
-        return Err(AllocError);
-    }
     let root = [Item::Hole(state)];
     Ok(plenty_along::<S>(&columns, &root))
 }
 
 /// Whether there are shown to be more than `most` matches of a side from a state that cost no more
 /// than `MOST` with a cost above them and with what the states at the holes cost. Where it says no
-/// there may be more all the same. Err if memory is refused, or if there are not as many costs as
-/// holes.
+/// there may be more all the same. Err only if memory is refused.
 ///
 /// It takes one pass over the side, from the last item to the first, and has for each state at a
 /// node a lower bound on the number of lists of states below it, with the greatest of their least
@@ -150,6 +154,7 @@ pub(crate) fn has_more<S: Semiring, P>(
     costs: &[HoleCost],
     most: u64,
 ) -> Result<bool, AllocError>
+    requires { length costs.now ≡ length (holes_of side.now) }
     ensures { IfOk result (λ more. IsTrue more → AreMoreWhere S.product normal.now.rules side.now
         state (IsWithin S.product above costs.now) most) }
 {
@@ -172,7 +177,9 @@ pub(crate) fn matches_shown<S: Semiring, P>(
     state: u32,
     side: &Side<P>,
     costs: &[HoleCost],
-) -> Result<u64, AllocError> {
+) -> Result<u64, AllocError>
+    requires { length costs.now ≡ length (holes_of side.now) }
+{
     match count_lists(alloc, normal, state, side.items(), costs)? {
         Some(found) => Ok(found.count),
         None => Ok(0),

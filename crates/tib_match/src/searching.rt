@@ -4,6 +4,7 @@
 ghost use Rattle.std.specs.Prelude.{◌≡◌, ℕ, ◌<◌, ◌+◌, ◌++◌, ◌∷◌, [], length, map, replicate, IsTrue, false, IfOk, OnOk, Some, None};
 ghost use Rattle.std.proofs.Common.{set};
 ghost use Rattle.tib_tree.specs.Trees.{preorder_of};
+ghost use Rattle.tib_grammar.specs.Sides.{holes_of};
 ghost use Rattle.tib_match.specs.Searching.{
   IsNarrow,
   IsWide,
@@ -23,7 +24,7 @@ ghost use Rattle.tib_match.specs.declared.hole_cost.HoleCost.TheVariants.{Free};
 use crate::box_cost::least_cost;
 use crate::columns::product_of;
 use crate::found_match::Match;
-use crate::hole_cost::HoleCost;
+use crate::hole_cost::{HoleCost, is_each_priced};
 use crate::spans::Span;
 use crate::within::Within;
 use smallvec::SmallVec;
@@ -143,6 +144,8 @@ impl<'a, S: Semiring> Search<'a, S> {
         spans: &[Span],
         found: &mut Vec<Match>,
     ) -> Result<(), AllocError>
+        requires costs { length self.now.costs.now ≡ length (holes_of side.now) }
+        requires spans { length spans.now ≡ length (holes_of side.now) }
         ensures { OnOk result (Takes S.product self.now.normal.now.rules (preorder_of side.now)
             self.now.state (length self.now.costs.now) spans.now found.old.items found.new.items) }
     {
@@ -168,6 +171,8 @@ impl<'a, S: Semiring> Search<'a, S> {
         found: &mut Vec<Match>,
         waiting: &mut Vec<Vec<Span>>,
     ) -> Result<(), AllocError>
+        requires costs { length self.now.costs.now ≡ length (holes_of side.now) }
+        requires spans { length spans.now ≡ length (holes_of side.now) }
         ensures { OnOk result (
             IsUnderway S.product self.now.normal.now.rules side.now self.now.state self.now.above
             self.now.costs.now found.old.items (boxes_of waiting.old.items ++ spans.now ∷ []) →
@@ -188,7 +193,8 @@ impl<'a, S: Semiring> Search<'a, S> {
 
     // Searches box by box, until more than this many matches were found or no box is left.
     fn run<P>(&self, alloc: Global, side: &Side<P>, most: u64) -> Result<Within, AllocError>
-        requires { self.now.state < length self.now.normal.now.names }
+        requires state { self.now.state < length self.now.normal.now.names }
+        requires costs { length self.now.costs.now ≡ length (holes_of side.now) }
         ensures { IfOk result (AnswersWhere S.product self.now.normal.now.rules side.now
             self.now.state (IsWithin S.product self.now.above self.now.costs.now) most) }
     {
@@ -213,8 +219,9 @@ impl<'a, S: Semiring> Search<'a, S> {
 
 /// The matches of a side from a state that cost no more than `MOST` with a cost above them and with
 /// what the states at the holes cost; the list may hold others too. Each list occurs once, and they
-/// ascend. `More` comes only where there are more than `most` such matches. Err if memory is
-/// refused, or if there are not as many costs as holes.
+/// ascend. `More` comes only where there are more than `most` such matches. Where there are not as
+/// many costs as holes, no match has a cost with them, and the list is empty. Err only if memory is
+/// refused, or if the search takes 2^64 - 1 steps.
 ///
 /// It halves spans of states, hole by hole, and drops a box in which the least cost of all is too
 /// great, so each that is kept has a match. For each match and each hole it looks at as many boxes
@@ -235,6 +242,10 @@ pub fn search_matches<S: Semiring, P>(
     ensures { IfOk result (AnswersWhere S.product normal.now.rules side.now state
         (IsWithin S.product above costs.now) most) }
 {
+    normal.grammar();
+    if !is_each_priced(side.items(), costs) {
+        return Ok(Within::All(Vec::new(alloc)));
+    }
     let search = Search {
         normal,
         state,

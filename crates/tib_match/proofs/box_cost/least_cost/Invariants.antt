@@ -1,11 +1,14 @@
-use Rattle.std.proofs.Common.{◌≤◌, length, drop}
-use Rattle.tib_grammar.specs.Items.{pairs_of}
+use Rattle.std.proofs.Common.{◌≡◌, ◌≤◌, ◌+◌, length, drop}
+use Rattle.tib_tree.specs.Trees.{count, parse}
+use Rattle.tib_grammar.specs.Items.{pairs_of, holes_in}
 use Rattle.tib_match.specs.Boxes.{all_spanned, AreColumns}
 use Rattle.tib_match.proofs.box_cost.least_cost.Given as goal
 
 abbrev pub invariant-loop-i : goal.invariant-loop-i
 invariant-loop-i g l = record {
   within : l.i ≤ length l.items;
+  waiting : length l.columns.items ≡ count (parse (pairs_of (drop l.i l.items)));
+  before : l.holes + length (holes_in (drop l.i l.items)) ≡ length (holes_in l.items);
   columns : AreColumns g.S.Semiring.product l.normal.rules (pairs_of (drop l.i l.items)) (all_spanned (drop l.holes l.spans) (drop l.holes l.costs)) l.columns.items;
 }
 

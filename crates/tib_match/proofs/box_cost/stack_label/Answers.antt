@@ -7,9 +7,9 @@ use Rattle.tib_match.proofs.box_cost.stack_label.Goals as goal
 pub returns : goal.returns
 returns g c =
     let columns : List (List (Option ℕ)) = c.args.columns.now.items in
-    let from : ℕ = c.len-2.result - c.args.rank in
-    let many : c.len-2.result ≡ length columns = search rules in
-    let room : c.args.rank ≤ length columns = search rules in
+    let from : ℕ = c.len.result - c.args.rank in
+    let many : c.len.result ≡ length columns = search rules in
+    let room : c.args.rank ≤ length columns = c.requires in
     let cut : c.truncate.new.self.items ≡ take from columns = search rules in
     let there : c.deref.result.now ≡ columns = c.deref.ensures.value in
     let last : take (length c.deref.result.now - from) (drop from c.deref.result.now) ≡ drop from columns =

@@ -1,4 +1,4 @@
-use Rattle.std.proofs.Common.{◌≡◌, ◌++◌, ◌∷◌, [], ap, sym, ◌∙◌}
+use Rattle.std.proofs.Common.{◌++◌, ◌∷◌, [], ap, sym, ◌∙◌}
 use Rattle.tib_match.specs.declared.hole_cost.HoleCost.TheVariants.{Free}
 use Rattle.tib_match.proofs.Budgets.{hole_more, label_more, all_holes}
 use Rattle.tib_match.proofs.budget.free_costs.Goals.{in-Hole+in_ok-push, in_default}

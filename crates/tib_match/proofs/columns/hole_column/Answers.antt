@@ -1,6 +1,5 @@
-use Rattle.std.proofs.Common.{◌≡◌, ◌<◌, ◌≤◌, ◌+◌, ◌++◌, ◌∷◌, [], ℕ, List, Option, length, arith, ap, sym, ◌∙◌, subst, get_or, None}
+use Rattle.std.proofs.Common.{◌+◌, length, arith, ap, ◌∙◌, get_or, None}
 use Rattle.std.proofs.lemmas.List.{length_push}
-use Rattle.tib_match.specs.Boxes.{spanned, cost_at}
 use Rattle.tib_match.proofs.ColumnSteps.{hole_next, hole_whole}
 use Rattle.tib_match.proofs.columns.hole_column.Goals as goal
 

@@ -1,9 +1,8 @@
-use Rattle.std.proofs.Common.{rules, ◌≡◌, ◌<◌, ◌++◌, ◌∷◌, [], ℕ, List, length, take, arith, ap, sym, ◌∙◌, subst, get_or, None}
+use Rattle.std.proofs.Common.{rules, ◌≡◌, ◌<◌, ℕ, List, length, take, arith, ap, sym, ◌∙◌, subst, get_or, None}
 use Rattle.std.proofs.lemmas.List.{get_or_read, take_all, take_more, length-replicate}
 use Rattle.tib_grammar.specs.Run.{rule_at, no_rule}
 use Rattle.tib_grammar.specs.Forms.{IsNormalSide}
 use Rattle.tib_grammar.specs.declared.Rule.{Rule}
-use Rattle.tib_normal.specs.Rules.{positions_with}
 use Rattle.tib_match.specs.Boxes.{IsColumn, IsLowered, column_of, stack_of}
 use Rattle.tib_match.proofs.ColumnSteps.{no_rules, column_next, place_below}
 use Rattle.tib_match.proofs.columns.label_column.Goals as goal

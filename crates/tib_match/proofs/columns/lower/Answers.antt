@@ -1,9 +1,8 @@
-use Rattle.std.proofs.Common.{◌≡◌, ◌<◌, ℕ, List, length, arith, ap, sym, ◌∙◌, subst, get_or, Some, None, Option}
-use Rattle.std.proofs.lemmas.List.{get_or_read, get_or-set_same, get_or-set_other, length-set}
+use Rattle.std.proofs.Common.{ap, sym, ◌∙◌, Some, None}
+use Rattle.std.proofs.lemmas.List.{get_or_read}
 use Rattle.tib_cost.specs.Least.{times, lesser}
-use Rattle.tib_grammar.specs.Sides.{holes}
 use Rattle.tib_match.specs.Boxes.{cost_along, stack_of}
-use Rattle.tib_match.proofs.ColumnSteps.{lesser_none, lowered, not_lowered}
+use Rattle.tib_match.proofs.ColumnSteps.{lowered, not_lowered}
 use Rattle.tib_match.proofs.columns.lower.Goals as goal
 
 pub returns-in_default : goal.returns-in_default

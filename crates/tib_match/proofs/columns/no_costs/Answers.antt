@@ -1,4 +1,4 @@
-use Rattle.std.proofs.Common.{◌≡◌, ◌++◌, ◌∷◌, [], ◌≤◌, ℕ, List, Option, None, replicate, ap, sym, ◌∙◌, arith}
+use Rattle.std.proofs.Common.{◌≡◌, ◌++◌, ◌∷◌, [], None, replicate, ap, ◌∙◌, arith}
 use Rattle.std.proofs.lemmas.List.{replicate_more}
 use Rattle.tib_match.proofs.columns.no_costs.Goals as goal
 

@@ -1,4 +1,4 @@
-use Rattle.std.proofs.Common.{◌≡◌, ◌-◌, ◌<◌, length, map, arith, ap, sym, ◌∙◌, subst, get_or, take, drop}
+use Rattle.std.proofs.Common.{arith, sym, ◌∙◌}
 use Rattle.tib_match.proofs.ColumnSteps.{along_next, along_all, other_long}
 use Rattle.tib_match.proofs.columns.product_along.Goals as goal
 

@@ -6,9 +6,9 @@ use Rattle.tib_match.proofs.counting.stack_hole.Goals as goal
 
 pub returns : goal.returns
 returns g c =
-    let low : c.args.holes - 1 < length c.args.costs.now = omega (arith, c.if-holes-eq0.false, c.if-holes-costs.false) in
+    let low : c.args.holes - 1 < length c.args.costs.now = omega (arith, c.requires.some, c.requires.costs) in
     record {
-      one_less = omega (arith, c.if-holes-eq0.false);
+      one_less = omega (arith, c.requires.some);
       few_costs = low;
       column = c.in_ok-column.column;
       after = c.in_ok-push.ensures.items;

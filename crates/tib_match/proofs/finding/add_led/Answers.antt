@@ -1,8 +1,8 @@
-use Rattle.std.proofs.Common.{rules, ◌≡◌, ◌++◌, List, [], length, reverse, take, ap, sym, ◌∙◌, append-nil, arith, ◌<◌, ◌-◌, ◌∷◌, subst, get_or}
+use Rattle.std.proofs.Common.{rules, ◌≡◌, ◌++◌, List, length, reverse, take, ap, sym, ◌∙◌, append-nil, arith, ◌<◌, ◌-◌, ◌∷◌, subst, get_or}
 use Rattle.std.proofs.lemmas.List.{get_or_read}
 use Rattle.std.proofs.lemmas.Result.{IfOk-weaker}
 use Rattle.tib_match.specs.PartialMatches.{Partial}
-use Rattle.tib_match.specs.Leading.{partial_of, partials_of, all_placed}
+use Rattle.tib_match.specs.Leading.{partial_of, partials_of}
 use Rattle.tib_match.proofs.NarrowedLists.{nothing_led, none_waits, waits_last}
 use Rattle.tib_match.proofs.finding.add_led.Goals as goal
 

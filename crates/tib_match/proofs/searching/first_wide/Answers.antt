@@ -1,4 +1,4 @@
-use Rattle.std.proofs.Common.{◌<◌, ◌≤◌, ℕ, length, get_or, arith, subst, sym, refl, inl, inr}
+use Rattle.std.proofs.Common.{get_or, arith, subst, sym, refl, inl, inr}
 use Rattle.tib_lex.proofs.Numbers.{below_cases}
 use Rattle.tib_match.specs.Searching.{IsNarrow, no_span}
 use Rattle.tib_match.proofs.searching.first_wide.Goals as goal

@@ -1,10 +1,11 @@
-use Rattle.std.proofs.Common.{rules, ◌≡◌, ◌<◌, ◌++◌, ◌∷◌, [], ℕ, List, length, replicate, arith, ap, sym, ◌∙◌, subst}
+use Rattle.std.proofs.Common.{rules, ◌≡◌, ◌++◌, ◌∷◌, [], ℕ, List, length, replicate, arith, ap, sym, ◌∙◌, subst}
 use Rattle.std.proofs.lemmas.List.{map-append, nil_from_length}
 use Rattle.tib_grammar.specs.Range.{AreInRange}
 use Rattle.tib_grammar.specs.declared.Rule.{Rule}
 use Rattle.tib_match.specs.Searching.{IsUnderway, boxes_of}
 use Rattle.tib_match.specs.declared.spans.Span.{Span}
 use Rattle.tib_match.proofs.BoxSearch.{started, finished, overrun}
+use Rattle.tib_match.proofs.StackedItems.{last_long}
 use Rattle.tib_match.proofs.searching.Search.run.Goals as goal
 
 pub loop-turn-init : goal.loop-turn-init
@@ -19,7 +20,16 @@ loop-turn-init g c =
     in
     subst (λ fs. IsUnderway g.S.Semiring.product self.normal.now.rules c.args.side.now self.state self.above self.costs.now fs (boxes_of c.push.new.self.items)) (sym c.new-found.ensures.items)
     (subst (λ bs. IsUnderway g.S.Semiring.product self.normal.now.rules c.args.side.now self.state self.above self.costs.now [] bs) (sym boxes)
-    (started g.met.S.Semiring.laws self.normal.now.rules c.grammar-grammar.ensures.normal.normal c.args.side.now c.items.ensures.leaves self.state self.above self.costs.now n (omega (arith, c.requires, names)) range))
+    (started g.met.S.Semiring.laws self.normal.now.rules c.grammar-grammar.ensures.normal.normal c.args.side.now c.items.ensures.leaves self.state self.above self.costs.now n (omega (arith, c.requires.state, names)) range))
+
+pub search_box-requires : goal.search_box-requires
+search_box-requires g c =
+    let path : boxes_of c.loop-turn.waiting.items ≡ boxes_of c.pop.new.self.items ++ c.deref.result.now ∷ [] =
+    ap boxes_of c.in-Some.ensures.items ∙ map-append (λ b. b.items) c.pop.new.self.items (c.in-Some.spans ∷ []) ∙ ap (λ (b : List Span). boxes_of c.pop.new.self.items ++ b ∷ []) (sym c.deref.ensures.value)
+    in
+    let costs = c.requires.costs in
+    let spans = last_long (length c.args.self.now.costs.now) (boxes_of c.loop-turn.waiting.items) (boxes_of c.pop.new.self.items) c.deref.result.now path c.loop-turn.invariant.long ∙ costs in
+    search (rules, costs, spans)
 
 pub loop-turn-preserved : goal.loop-turn-preserved
 loop-turn-preserved g c =

@@ -1,8 +1,9 @@
-use Rattle.std.proofs.Common.{◌≡◌, ◌∷◌, [], sym, ◌∙◌, subst}
+use Rattle.std.proofs.Common.{length, ◌∷◌, [], sym, ◌∙◌, subst}
 use Rattle.tib_cost.specs.Least.{IsLeast}
 use Rattle.tib_match.specs.Boxes.{all_spanned, IsReadBox}
 use Rattle.tib_match.specs.Searching.{boxes_of}
 use Rattle.tib_match.proofs.BoxSearch.{on_ok, too_dear, halved, taken}
+use Rattle.tib_match.proofs.StackedItems.{side_nested, as_many}
 use Rattle.tib_match.proofs.searching.Search.search_box.Goals as goal
 
 pub returns-in_default : goal.returns-in_default
@@ -32,3 +33,12 @@ returns-in-None g c =
     (λ t. taken g.met.S.Semiring.laws self.normal.now.rules c.grammar.ensures.normal.normal c.args.side.now c.items-items.ensures.leaves self.state self.above self.costs.now
     c.args.found.now.items c.take.new.found.items (boxes_of c.args.waiting.now.items) spans c.in_ok-least.least c.in-Some._whole c.in-None.ensures least (sym c.product_of.ensures ∙ c.in-Some.is) t)
     c.take.ensures
+
+pub least_cost-requires-clause-nested : goal.least_cost-requires-clause-nested
+least_cost-requires-clause-nested g c = side_nested c.items-items.result.now c.args.side.now c.items-items.ensures.items
+
+pub least_cost-requires-clause-costs : goal.least_cost-requires-clause-costs
+least_cost-requires-clause-costs g c = as_many c.items-items.result.now c.args.side.now (length c.args.self.now.costs.now) c.items-items.ensures.items c.requires.costs
+
+pub least_cost-requires-clause-spans : goal.least_cost-requires-clause-spans
+least_cost-requires-clause-spans g c = as_many c.items-items.result.now c.args.side.now (length c.args.spans.now) c.items-items.ensures.items c.requires.spans

@@ -1,10 +1,12 @@
-use Rattle.std.proofs.Common.{rules, ◌≡◌, ◌++◌, ◌∷◌, [], ap, sym, ◌∙◌, subst, refl, Some, None, Option, ℕ, List, length, replicate}
+use Rattle.std.proofs.Common.{◌≡◌, ◌++◌, ◌∷◌, [], ap, ◌∙◌, subst, refl, Some, None, ℕ, List, length}
+use Rattle.std.proofs.lemmas.List.{length-replicate}
 use Rattle.tib_cost.specs.Least.{IsLeast}
 use Rattle.tib_tree.specs.Trees.{preorder_of}
 use Rattle.tib_grammar.specs.Items.{pairs_of}
 use Rattle.tib_match.specs.Boxes.{all_spanned, IsReadBox}
 use Rattle.tib_match.specs.Searching.{lows}
 use Rattle.tib_match.specs.declared.hole_cost.HoleCost.TheVariants.{Free}
+use Rattle.tib_match.proofs.StackedItems.{side_nested, as_many}
 use Rattle.tib_match.proofs.searching.Search.take.Goals as goal
 
 pub returns-in_default : goal.returns-in_default
@@ -35,3 +37,14 @@ returns g c =
           (subst (IsLeast (IsReadBox product rules_of (pairs_of c.items.result.now) qs (all_spanned c.args.spans.now c.deref.result.now))) c.in-Some.is c.in_ok-least.ensures));
       found = c.in_ok-push.ensures.items ∙ ap (λ (ss : List ℕ). c.args.found.now.items ++ (ss, cost) ∷ []) states;
     }
+
+pub least_cost-requires-clause-nested : goal.least_cost-requires-clause-nested
+least_cost-requires-clause-nested g c = side_nested c.items.result.now c.args.side.now c.items.ensures.items
+
+pub least_cost-requires-clause-costs : goal.least_cost-requires-clause-costs
+least_cost-requires-clause-costs g c =
+    ap length (c.deref.ensures.value ∙ c.in_ok-free.ensures) ∙ length-replicate (length c.args.self.now.costs.now) Free
+    ∙ as_many c.items.result.now c.args.side.now (length c.args.self.now.costs.now) c.items.ensures.items c.requires.costs
+
+pub least_cost-requires-clause-spans : goal.least_cost-requires-clause-spans
+least_cost-requires-clause-spans g c = as_many c.items.result.now c.args.side.now (length c.args.spans.now) c.items.ensures.items c.requires.spans
