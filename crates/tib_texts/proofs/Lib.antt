@@ -2,3 +2,7 @@ pub mod Lines
 pub mod FormSeries
 pub mod BestOf
 pub mod NarrowBest
+pub mod PlacedAt
+pub mod LinesDerived
+pub mod VariableLines
+pub mod DerivationsThere

@@ -1,8 +1,8 @@
 -- The k cheapest trees among the rules within a beam are those of all rules, where none of them
 -- costs more than the beam allows.
-use Rattle.std.proofs.Common.{◌≡◌, ◌⊎◌, ℕ, ◌+◌, ◌≤◌, List, length, sym, subst, arith, inl, inr}
+use Rattle.std.proofs.Common.{◌≡◌, ℕ, ◌+◌, ◌≤◌, List, length, sym, subst, arith, inl, inr}
 use Rattle.std.specs.Prelude.{Option, None, Some, IfSome}
-use Rattle.tib_lex.specs.Lists.{Has, Each}
+use Rattle.tib_lex.specs.Lists.{Each}
 use Rattle.tib_lex.proofs.Lists.{each_weaker}
 use Rattle.tib_lex.proofs.Members.{each_has, each_of}
 use Rattle.tib_lex.proofs.Numbers.{nat_le_cases}

@@ -1,1 +1,2 @@
--- There are no definitions here: those of tib_operations state what each text is.
+-- The definitions of tib_operations state what each text is. Here are those of its parts.
+pub mod RuleLines

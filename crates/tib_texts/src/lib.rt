@@ -8,10 +8,12 @@
 mod check;
 mod classes;
 mod derivations;
+mod derived;
 mod forms;
 mod inside;
 mod inverse;
 mod kbest;
+mod labels;
 mod normal;
 mod pieces;
 mod prune;

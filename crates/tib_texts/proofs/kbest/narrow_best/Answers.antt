@@ -1,4 +1,4 @@
-use Rattle.std.proofs.Common.{rules, arith, ap, ◌∙◌, ◌+◌, ◌<◌, ◌≤◌, length, subst}
+use Rattle.std.proofs.Common.{arith, ◌∙◌, ◌+◌, ◌<◌, ◌≤◌, length, subst}
 use Rattle.std.specs.Prelude.{None, Option, ℕ}
 use Rattle.std.proofs.lemmas.List.{get_or_default}
 use Rattle.std.proofs.lemmas.Option.{IfSome_then}

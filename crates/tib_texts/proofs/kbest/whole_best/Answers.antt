@@ -1,6 +1,6 @@
 use Rattle.std.proofs.Common.{length}
 use Rattle.tib_grammar_file.specs.Printed.{AreLabelled}
-use Rattle.tib_texts.proofs.BestOf.{best_of_form, costs_free, labels_of_best, large_in_form, made_fault}
+use Rattle.tib_texts.proofs.BestOf.{best_of_form, costs_free, labels_of_best, made_fault}
 use Rattle.tib_texts.proofs.kbest.whole_best.Goals as goal
 
 pub returns-in-Err-clause-err : goal.returns-in-Err-clause-err

@@ -1,4 +1,4 @@
-use Rattle.std.proofs.Common.{List, ℕ, subst}
+use Rattle.std.proofs.Common.{ℕ, subst}
 use Rattle.tib_grammar.specs.GrammarOf.{GrammarOf}
 use Rattle.tib_prune.specs.Pruned.{IsPruned, KeepsCheapTrees, StandInCheapRuns}
 use Rattle.tib_operations.proofs.BestRuns.{keeps_over}

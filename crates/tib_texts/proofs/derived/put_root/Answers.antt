@@ -1,0 +1,13 @@
+use Rattle.std.proofs.Common.{refl, ◌∷◌, [], ◌++◌}
+use Rattle.std.specs.Prelude.{decimal}
+use Rattle.tib_io.specs.declared.files.Failed.{Failed}
+use Rattle.tib_grammar_file.proofs.Printing.{seq, cut}
+use Rattle.tib_texts.proofs.derived.put_root.Goals as goal
+
+pub returns-in-Ok : goal.returns-in-Ok
+returns-in-Ok g c =
+    seq (Unit {0}) (Unit {0}) Failed g.W.Sink.seen c.args.out.now c.put.new.out c.put_number.new.out (46 ∷ (114 ∷ [])) (decimal c.args.number) ((46 ∷ (114 ∷ [])) ++ (decimal c.args.number)) tt _ refl c.in-Ok.ensures c.put_number.ensures
+
+pub returns-in-Err : goal.returns-in-Err
+returns-in-Err g c =
+    cut (Unit {0}) (Unit {0}) Failed g.W.Sink.seen c.args.out.now c.put.new.out (46 ∷ (114 ∷ [])) (decimal c.args.number) ((46 ∷ (114 ∷ [])) ++ (decimal c.args.number)) _ refl c.in-Err.ensures
