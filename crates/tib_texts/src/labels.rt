@@ -1,4 +1,5 @@
-// Writes labels as they are in transducers, and decides which of them need no quotes.
+// Writes labels as they are in transducers, and decides which of them need no quotes. The crate
+// tib_transducer_file has a function with the same clause, which it keeps to itself.
 ghost use Rattle.std.specs.Prelude.{◌≡◌, ◌≤◌, ◌<◌, length};
 ghost use Rattle.tib_io.specs.Wrote.{Wrote};
 ghost use Rattle.tib_grammar_file.specs.Rule.{has_dot as spec_has_dot};
