@@ -64,8 +64,9 @@ pub fn put_quoted<W: Sink>(out: &mut W, text: &[u8]) -> Result<(), Failed>
     }
 }
 
-// Appends a space before each of some trees but the first.
-pub(crate) fn put_space<W: Sink>(out: &mut W, k: u32) -> Result<(), Failed>
+/// Appends a space before each of some trees but the first: the tree has this index. If the sink
+/// fails, nothing was appended. Worst case: O(1) steps.
+pub fn put_space<W: Sink>(out: &mut W, k: u32) -> Result<(), Failed>
     ensures { Wrote (W.seen out.old) (W.seen out.new) (space k) result }
 {
     if k == 0 {
@@ -75,8 +76,9 @@ pub(crate) fn put_space<W: Sink>(out: &mut W, k: u32) -> Result<(), Failed>
     }
 }
 
-// Appends what opens the children of a node, if it has some.
-pub(crate) fn put_opening<W: Sink>(out: &mut W, rank: u32) -> Result<(), Failed>
+/// Appends what opens the children of a node of this rank: a parenthesis if it has some, else
+/// nothing. If the sink fails, nothing was appended. Worst case: O(1) steps.
+pub fn put_opening<W: Sink>(out: &mut W, rank: u32) -> Result<(), Failed>
     ensures { Wrote (W.seen out.old) (W.seen out.new) (opening rank) result }
 {
     if rank == 0 {
@@ -86,8 +88,9 @@ pub(crate) fn put_opening<W: Sink>(out: &mut W, rank: u32) -> Result<(), Failed>
     }
 }
 
-// Appends what closes them.
-pub(crate) fn put_closing<W: Sink>(out: &mut W, rank: u32) -> Result<(), Failed>
+/// Appends what closes the children of a node of this rank: a parenthesis if it has some, else
+/// nothing. If the sink fails, nothing was appended. Worst case: O(1) steps.
+pub fn put_closing<W: Sink>(out: &mut W, rank: u32) -> Result<(), Failed>
     ensures { Wrote (W.seen out.old) (W.seen out.new) (closing rank) result }
 {
     if rank == 0 {

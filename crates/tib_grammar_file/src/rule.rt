@@ -94,7 +94,8 @@ fn after_head(tokens: &[Token]) -> &[Token]
     &tokens[2..]
 }
 
-pub(crate) fn has_dot(text: &[u8]) -> bool
+/// Whether a full stop is in a text. Worst case: O(n) steps for n bytes.
+pub fn has_dot(text: &[u8]) -> bool
     ensures { result ≡ spec_has_dot text.now }
 {
     text.iter().any(|byte| b'.' == *byte)

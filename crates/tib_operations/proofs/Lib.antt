@@ -50,6 +50,7 @@ pub mod TextsAlike
 pub mod ShapesPlaced
 pub mod OfInvert
 pub mod OfRuns
+pub mod DerivationsThere
 pub mod FirstSight
 pub mod KeptByText
 pub mod OfTrim

@@ -5,4 +5,3 @@ pub mod NarrowBest
 pub mod PlacedAt
 pub mod LinesDerived
 pub mod VariableLines
-pub mod DerivationsThere

@@ -17,11 +17,11 @@ ghost use Rattle.tib_rulewise.specs.Placed.{placed_items, placed_side, item_with
 ghost use Rattle.tib_rulewise.specs.Derivations.{read_from, AreDerivationRules, IsDerivations};
 ghost use Rattle.tib_texts.specs.RuleLines.{right_line, arrow_line, below_line, root_line, derivation_line};
 
-use crate::labels::put_label;
 use tib_cost::{Scale, Semiring};
 use tib_grammar::{Grammar, Item, Names, Rule, Side};
-use tib_grammar_file::{put, put_end, put_number};
+use tib_grammar_file::{put, put_closing, put_end, put_number, put_opening, put_space};
 use tib_io::{Failed, Sink};
+use tib_transducer_file::put_label;
 use tib_tree::Labels;
 
 // What follows the state of a pair.
@@ -62,39 +62,6 @@ fn put_symbol<W: Sink>(
     match item {
         Item::Label { label, .. } => put_label(out, labels.text(*label)),
         Item::Hole(state) => put_pair(out, *state, variable, names),
-    }
-}
-
-// A space before each of some trees but the first.
-fn put_space<W: Sink>(out: &mut W, k: u32) -> Result<(), Failed>
-    ensures { Wrote (W.seen out.old) (W.seen out.new) (space k) result }
-{
-    if k == 0 {
-        put(out, b"")
-    } else {
-        put(out, b" ")
-    }
-}
-
-// What opens the children of a node, if it has some.
-fn put_opening<W: Sink>(out: &mut W, rank: u32) -> Result<(), Failed>
-    ensures { Wrote (W.seen out.old) (W.seen out.new) (opening rank) result }
-{
-    if rank == 0 {
-        put(out, b"")
-    } else {
-        put(out, b"(")
-    }
-}
-
-// What closes them.
-fn put_closing<W: Sink>(out: &mut W, rank: u32) -> Result<(), Failed>
-    ensures { Wrote (W.seen out.old) (W.seen out.new) (closing rank) result }
-{
-    if rank == 0 {
-        put(out, b"")
-    } else {
-        put(out, b")")
     }
 }
 

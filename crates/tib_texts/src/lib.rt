@@ -13,7 +13,6 @@ mod forms;
 mod inside;
 mod inverse;
 mod kbest;
-mod labels;
 mod normal;
 mod pieces;
 mod prune;

@@ -1,20 +1,13 @@
 // Writes labels as they are written in transducers, and decides which of them need no quotes.
 ghost use Rattle.std.specs.Prelude.{◌≡◌, ◌≤◌, ◌<◌, length};
 ghost use Rattle.tib_io.specs.Wrote.{Wrote};
-ghost use Rattle.tib_grammar_file.specs.Rule.{has_dot as spec_has_dot};
 ghost use Rattle.tib_grammar_file.specs.Weight.{is_digit as spec_is_digit};
 ghost use Rattle.tib_transducer_file.specs.Forms.{digits, number_size as spec_number_size};
 ghost use Rattle.tib_transducer_file.specs.Printed.{is_variable as spec_is_variable, ends_or_colon as spec_ends_or_colon, is_plain as spec_is_plain, label_text};
 
-use tib_grammar_file::{put, put_quoted};
+use tib_grammar_file::{has_dot, put, put_quoted};
 use tib_io::{Failed, Sink};
 use tib_lex::is_name;
-
-fn has_dot(text: &[u8]) -> bool
-    ensures { result ≡ spec_has_dot text.now }
-{
-    text.iter().any(|byte| b'.' == *byte)
-}
 
 fn is_digit(byte: u8) -> bool
     ensures { result ≡ spec_is_digit byte }
@@ -78,8 +71,10 @@ fn is_plain(text: &[u8]) -> bool
     is_name(text) && !has_dot(text) && !is_variable(text)
 }
 
-// A label of this text.
-pub(crate) fn put_label<W: Sink>(out: &mut W, text: &[u8]) -> Result<(), Failed>
+/// Appends a label of this text as transducers have it: bare where it reads as a label without
+/// quotes, otherwise in quotes. If the sink fails, a front of this was appended. Worst case: O(n)
+/// steps for n bytes.
+pub fn put_label<W: Sink>(out: &mut W, text: &[u8]) -> Result<(), Failed>
     ensures { Wrote (W.seen out.old) (W.seen out.new) (label_text text.now) result }
 {
     if is_plain(text) {

@@ -25,6 +25,7 @@ mod transducer;
 mod trees;
 
 pub use file::{FileRules, read_file};
+pub use label::put_label;
 pub use laws::{
     one_transducer_by_text, text_has_one_transducer, transducer_faults_are_one,
     transducer_faults_are_read, transducer_files_are_texts_or_faulty,

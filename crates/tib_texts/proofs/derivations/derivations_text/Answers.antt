@@ -1,6 +1,6 @@
 use Rattle.std.proofs.lemmas.Result.{IfOk-weaker}
 use Rattle.tib_operations.proofs.OfRuns.{runs_text}
-use Rattle.tib_texts.proofs.DerivationsThere.{are_there}
+use Rattle.tib_operations.proofs.DerivationsThere.{are_there}
 use Rattle.tib_texts.proofs.derivations.derivations_text.Goals as goal
 
 pub text_of-requires-clause-labelled : goal.text_of-requires-clause-labelled
