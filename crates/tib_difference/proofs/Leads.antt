@@ -12,9 +12,10 @@ use Rattle.tib_grammar.specs.Sides.{Symbol, label, holes, is_label}
 use Rattle.tib_grammar.specs.Run.{rule_at, no_rule}
 use Rattle.tib_grammar.specs.declared.Rule.{Rule}
 use Rattle.tib_grammar.proofs.Sides.{length-holes, is_label-true, is_label_cases, is_label-same}
+use Rattle.tib_key_edges.specs.Places.{positions_with}
 use Rattle.tib_key_edges.proofs.Places.{place_is, is_place}
 use Rattle.tib_difference.specs.Subsets.{SubsetOf, AreIn, LeadsTo, IsSubset}
-use Rattle.tib_difference.specs.Shapes.{first_state, has_shape, positions_with}
+use Rattle.tib_difference.specs.Shapes.{first_state, has_shape}
 use Rattle.tib_difference.specs.Lefts.{holds, are_in, lefts_at, lefts_from, first_of, lefts_over, IsSorting}
 
 -- what passes the test is in the set
@@ -81,21 +82,21 @@ module _ (rules : List (Rule ℕ)) (vs : List SubsetOf) where
   ]
 
   module _ (f : ℕ) where
-    from_lefts : (ps : List ℕ) (q : ℕ) → Has (lefts_from rules f vs ps) q → (p : ℕ) × IsLeftAmong (positions_with (p, f, length vs) rules) q
+    from_lefts : (ps : List ℕ) (q : ℕ) → Has (lefts_from rules f vs ps) q → (p : ℕ) × IsLeftAmong (positions_with has_shape (p, f, length vs) rules) q
     from_lefts [] q h = absurd h
-    from_lefts (p ∷ ps) q h = elim (has_either (lefts_at rules vs (positions_with (p, f, length vs) rules)) (lefts_from rules f vs ps) q h) [
-      | inl k ↦ (p, lefts_among (positions_with (p, f, length vs) rules) q k)
+    from_lefts (p ∷ ps) q h = elim (has_either (lefts_at rules vs (positions_with has_shape (p, f, length vs) rules)) (lefts_from rules f vs ps) q h) [
+      | inl k ↦ (p, lefts_among (positions_with has_shape (p, f, length vs) rules) q k)
       | inr k ↦ from_lefts ps q k
     ]
 
     to_lefts :
-        (ps : List ℕ) (q p m : ℕ) → Has ps p → Has (positions_with (p, f, length vs) rules) m → are_in (holes (rule_at rules m).right.kids) vs ≡ true → (rule_at rules m).left ≡ q →
+        (ps : List ℕ) (q p m : ℕ) → Has ps p → Has (positions_with has_shape (p, f, length vs) rules) m → are_in (holes (rule_at rules m).right.kids) vs ≡ true → (rule_at rules m).left ≡ q →
         Has (lefts_from rules f vs ps) q
     to_lefts [] q p m h at t e = absurd h
     to_lefts (r ∷ ps) q p m h at t e = elim h [
-      | inl s ↦ has_left (lefts_at rules vs (positions_with (r, f, length vs) rules)) (lefts_from rules f vs ps) q
-          (among_lefts (positions_with (r, f, length vs) rules) q m (subst (λ (i : ℕ). Has (positions_with (i, f, length vs) rules) m) (sym s) at) t e)
-      | inr k ↦ has_right (lefts_at rules vs (positions_with (r, f, length vs) rules)) (lefts_from rules f vs ps) q (to_lefts ps q p m k at t e)
+      | inl s ↦ has_left (lefts_at rules vs (positions_with has_shape (r, f, length vs) rules)) (lefts_from rules f vs ps) q
+          (among_lefts (positions_with has_shape (r, f, length vs) rules) q m (subst (λ (i : ℕ). Has (positions_with has_shape (i, f, length vs) rules) m) (sym s) at) t e)
+      | inr k ↦ has_right (lefts_at rules vs (positions_with has_shape (r, f, length vs) rules)) (lefts_from rules f vs ps) q (to_lefts ps q p m k at t e)
     ]
 
     lefts_lead : (q : ℕ) → Has (lefts_over rules f vs) q → LeadsTo rules f vs q
@@ -126,5 +127,5 @@ module _ (rules : List (Rule ℕ)) (vs : List SubsetOf) where
     is_subset normal v s = record { ascends = s.ascends; states = λ q. ((λ h. lefts_lead q (s.from q h)), (λ h. s.to q (lead_lefts normal q h))) }
 
 -- the numbers of rules that the index gives are those of rules
-pub below_all : (rules : List (Rule ℕ)) (s : ℕ × ℕ × ℕ) (m : ℕ) → Has (positions_with s rules) m → m < length rules
+pub below_all : (rules : List (Rule ℕ)) (s : ℕ × ℕ × ℕ) (m : ℕ) → Has (positions_with has_shape s rules) m → m < length rules
 below_all rules s m h = (place_is (has_shape s) rules m no_rule h).0

@@ -6,7 +6,8 @@ use Rattle.tib_grammar.specs.Run.{rule_at}
 use Rattle.tib_grammar.specs.declared.Rule.{Rule}
 use Rattle.tib_difference.specs.Subsets.{SubsetOf}
 use Rattle.tib_difference.specs.Difference.{KeyOf}
-use Rattle.tib_difference.specs.Shapes.{positions_with}
+use Rattle.tib_key_edges.specs.Places.{positions_with}
+use Rattle.tib_difference.specs.Shapes.{has_shape}
 
 -- the set of each key ascends
 abbrev pub AreAscending : List KeyOf → Type 0
@@ -36,7 +37,7 @@ lefts_at rules vs (m ∷ ms) = with_left rules vs m (lefts_at rules vs ms)
 -- the same of the rules that have a label, and one of some states at the first place
 abbrev pub lefts_from : List (Rule ℕ) → ℕ → List SubsetOf → List ℕ → List ℕ
 lefts_from rules f vs [] = []
-lefts_from rules f vs (q ∷ qs) = lefts_at rules vs (positions_with (q, f, length vs) rules) ++ lefts_from rules f vs qs
+lefts_from rules f vs (q ∷ qs) = lefts_at rules vs (positions_with has_shape (q, f, length vs) rules) ++ lefts_from rules f vs qs
 
 -- the states that may be at the first place; the number 0 stands for none
 abbrev pub first_of : List SubsetOf → List ℕ

@@ -4,13 +4,14 @@ ghost use Rattle.std.specs.Prelude.{◌≡◌, ℕ, ◌<◌, ◌≤◌, [], leng
 ghost use Rattle.tib_determinize.specs.Determinization.{LeftsBelow};
 ghost use Rattle.tib_difference.specs.Held.{AreHolders, held};
 ghost use Rattle.tib_difference.specs.Lefts.{AreAscending};
-ghost use Rattle.tib_difference.specs.Shapes.{IsIndex};
+ghost use Rattle.tib_key_edges.specs.Positions.{IsIndex};
+ghost use Rattle.tib_difference.specs.Shapes.{has_shape};
 ghost use Rattle.tib_difference.specs.Tries.{leaves_of, tries, users_of};
 ghost use Rattle.tib_difference.specs.Listing.{Exceed, HasAll, IsWithinBudget};
 ghost use Rattle.tib_expand.specs.Reached.{most_parts};
 
 use crate::holders::Holders;
-use crate::index::index_rules;
+use crate::index::ByFirst;
 use crate::listing::KeyListing;
 use crate::lists::{list_of, users_by_state};
 use crate::subset::Second;
@@ -20,7 +21,7 @@ use crate::walk::{Walk, list_leaves};
 use std::alloc::{AllocError, Global};
 use tib_cost::{Boolean, Semiring};
 use tib_expand::ExpandError;
-use tib_key_edges::ShapeIndex;
+use tib_key_edges::{ShapeIndex, index_rules};
 use tib_normal::Normal;
 
 /// The states of a first grammar, each with a set of states of a second one, reached from the rules
@@ -33,7 +34,7 @@ pub struct Difference<'a, S> {
     pub right: &'a Normal<Boolean>,
     pub(crate) index: ShapeIndex,
     pub(crate) users: Vec<Vec<(u32, u32)>>,
-    pub ghost indexed: { IsIndex right.now.rules index },
+    pub ghost indexed: { IsIndex has_shape right.now.rules index },
     pub ghost used: { (q : ℕ) → held users.items q ≡ users_of left.now.rules q
         (length left.now.rules) },
     pub ghost left_range: { LeftsBelow (length left.now.names) left.now.rules },
@@ -53,7 +54,7 @@ impl<'a, S: Semiring> Difference<'a, S> {
     {
         left.grammar().is_sound();
         right.grammar().is_sound();
-        let index = index_rules(alloc, right.grammar().rule_list())?;
+        let index = index_rules::<ByFirst>(alloc, right.grammar().rule_list())?;
         let users = users_by_state(alloc, left.grammar().rule_list())?;
         Ok(Difference {
             left,

@@ -6,7 +6,8 @@ ghost use Rattle.tib_grammar.specs.Forms.{AreNormal};
 ghost use Rattle.tib_grammar.specs.Items.{state_in};
 ghost use Rattle.tib_difference.specs.Difference.{keys_at, subsets_of};
 ghost use Rattle.tib_difference.specs.Lefts.{AreAscending, are_in, first_of, lefts_at, lefts_over, IsSorting};
-ghost use Rattle.tib_difference.specs.Shapes.{IsIndex};
+ghost use Rattle.tib_key_edges.specs.Positions.{IsIndex};
+ghost use Rattle.tib_difference.specs.Shapes.{has_shape};
 ghost use Rattle.tib_difference.specs.Subsets.{IsSubset};
 
 use crate::subset_key::SubsetKey;
@@ -87,7 +88,7 @@ fn lefts(
     positions: &[u32],
 ) -> Result<SmallVec<u32, 4>, AllocError>
     requires normal { AreNormal second.now.rules.now }
-    requires indexed { IsIndex second.now.rules.now second.now.index.now }
+    requires indexed { IsIndex has_shape second.now.rules.now second.now.index.now }
     requires within { Each (λ p. p < length order.now) positions.now }
     requires ascending { AreAscending order.now }
     requires few { length positions.now < 2 ^ 32 }
@@ -128,7 +129,7 @@ pub(crate) fn subset_over(
     positions: &[u32],
 ) -> Result<SmallVec<u32, 4>, AllocError>
     requires normal { AreNormal second.now.rules.now }
-    requires indexed { IsIndex second.now.rules.now second.now.index.now }
+    requires indexed { IsIndex has_shape second.now.rules.now second.now.index.now }
     requires within { Each (λ p. p < length order.now) positions.now }
     requires ascending { AreAscending order.now }
     requires few { length positions.now < 2 ^ 32 }

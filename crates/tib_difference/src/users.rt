@@ -8,7 +8,8 @@ ghost use Rattle.tib_expand.specs.Reached.{most_parts};
 ghost use Rattle.tib_difference.specs.Held.{AreHolders};
 ghost use Rattle.tib_difference.specs.Lefts.{AreAscending};
 ghost use Rattle.tib_difference.specs.Listing.{Exceed, HasAll, IsWithinBudget};
-ghost use Rattle.tib_difference.specs.Shapes.{IsIndex};
+ghost use Rattle.tib_key_edges.specs.Positions.{IsIndex};
+ghost use Rattle.tib_difference.specs.Shapes.{has_shape};
 ghost use Rattle.tib_difference.specs.Tries.{tries_all};
 ghost use Rattle.tib_difference.specs.Using.{IsUser};
 
@@ -27,7 +28,7 @@ pub(crate) fn list_users(
 ) -> Result<KeyListing, ExpandError>
     requires first { AreNormal walk.now.first.now }
     requires second { AreNormal walk.now.second.rules.now }
-    requires indexed { IsIndex walk.now.second.rules.now walk.now.second.index.now }
+    requires indexed { IsIndex has_shape walk.now.second.rules.now walk.now.second.index.now }
     requires users { Each (IsUser walk.now.first.now) users.now }
     requires position { walk.now.position < length walk.now.order.now }
     requires ascending { AreAscending walk.now.order.now }

@@ -8,7 +8,8 @@ ghost use Rattle.tib_grammar.specs.Run.{rule_at};
 ghost use Rattle.tib_expand.specs.Reached.{most_parts};
 ghost use Rattle.tib_difference.specs.Lefts.{AreAscending};
 ghost use Rattle.tib_difference.specs.Listing.{Adds, Exceed, HasAll, IsWithinBudget, Overruns};
-ghost use Rattle.tib_difference.specs.Shapes.{IsIndex};
+ghost use Rattle.tib_key_edges.specs.Positions.{IsIndex};
+ghost use Rattle.tib_difference.specs.Shapes.{has_shape};
 ghost use Rattle.tib_difference.specs.Held.{AreHolders};
 ghost use Rattle.tib_difference.specs.Tries.{leaf_try, leaves_of, states_in, tries_at};
 
@@ -45,7 +46,7 @@ pub(crate) fn list_edge(
 ) -> Result<(), ExpandError>
     requires first { AreNormal walk.now.first.now }
     requires second { AreNormal walk.now.second.rules.now }
-    requires indexed { IsIndex walk.now.second.rules.now walk.now.second.index.now }
+    requires indexed { IsIndex has_shape walk.now.second.rules.now walk.now.second.index.now }
     requires rule { walk.now.rule < length walk.now.first.now }
     requires positions { Each (λ p. p < length walk.now.order.now) positions.items }
     requires ascending { AreAscending walk.now.order.now }
@@ -83,7 +84,7 @@ fn list_leaf(
 ) -> Result<(), ExpandError>
     requires first { AreNormal first.now }
     requires second { AreNormal second.now.rules.now }
-    requires indexed { IsIndex second.now.rules.now second.now.index.now }
+    requires indexed { IsIndex has_shape second.now.rules.now second.now.index.now }
     requires rule { number < length first.now }
     requires within { IsWithinBudget listing.old }
     ensures added { OnOk result (Adds first.now second.now.rules.now []
@@ -120,7 +121,7 @@ pub(crate) fn list_leaves(
 ) -> Result<KeyListing, ExpandError>
     requires first { AreNormal first.now }
     requires second { AreNormal second.now.rules.now }
-    requires indexed { IsIndex second.now.rules.now second.now.index.now }
+    requires indexed { IsIndex has_shape second.now.rules.now second.now.index.now }
     requires few { length first.now < 2 ^ 32 }
     requires budget { budget ≤ most_parts }
     ensures listed { IfOk result (HasAll first.now second.now.rules.now [] (leaves_of first.now)) }
@@ -143,7 +144,7 @@ pub(crate) fn list_leaves(
 fn list_single(alloc: Global, walk: &Walk<'_>, listing: &mut KeyListing) -> Result<(), ExpandError>
     requires first { AreNormal walk.now.first.now }
     requires second { AreNormal walk.now.second.rules.now }
-    requires indexed { IsIndex walk.now.second.rules.now walk.now.second.index.now }
+    requires indexed { IsIndex has_shape walk.now.second.rules.now walk.now.second.index.now }
     requires rule { walk.now.rule < length walk.now.first.now }
     requires place { walk.now.place < length (states_in walk.now.first.now walk.now.rule) }
     requires position { walk.now.position < length walk.now.order.now }
@@ -176,7 +177,7 @@ fn list_prefixes(
 ) -> Result<(), ExpandError>
     requires first { AreNormal walk.now.first.now }
     requires second { AreNormal walk.now.second.rules.now }
-    requires indexed { IsIndex walk.now.second.rules.now walk.now.second.index.now }
+    requires indexed { IsIndex has_shape walk.now.second.rules.now walk.now.second.index.now }
     requires rule { walk.now.rule < length walk.now.first.now }
     requires place { walk.now.place < length (states_in walk.now.first.now walk.now.rule) }
     requires position { walk.now.position < length walk.now.order.now }
@@ -230,7 +231,7 @@ pub(crate) fn list_tries(
 ) -> Result<(), ExpandError>
     requires first { AreNormal walk.now.first.now }
     requires second { AreNormal walk.now.second.rules.now }
-    requires indexed { IsIndex walk.now.second.rules.now walk.now.second.index.now }
+    requires indexed { IsIndex has_shape walk.now.second.rules.now walk.now.second.index.now }
     requires rule { walk.now.rule < length walk.now.first.now }
     requires place { walk.now.place < length (states_in walk.now.first.now walk.now.rule) }
     requires position { walk.now.position < length walk.now.order.now }

@@ -10,13 +10,13 @@ use Rattle.tib_grammar.specs.Run.{rule_at, no_rule}
 use Rattle.tib_grammar.specs.Forms.{AreNormal, IsNormalSide}
 use Rattle.tib_grammar.specs.declared.Rule.{Rule}
 use Rattle.tib_normal.specs.Rules.{rules_from}
-use Rattle.tib_key_edges.specs.Places.{places_from}
+use Rattle.tib_key_edges.specs.Places.{places_from, positions_with}
 use Rattle.tib_key_edges.proofs.Places.{places_are, place_is, is_place, places_once}
 use Rattle.tib_intersect.specs.declared.listing.PairListing.{PairListing}
 use Rattle.tib_key_edges.specs.Ends.{key_at as pair_at}
 use Rattle.tib_intersect.specs.PairEdges.{IsPairEdge}
 use Rattle.tib_intersect.specs.PairRules.{Reads}
-use Rattle.tib_intersect.specs.Matching.{positions_with, has_shape}
+use Rattle.tib_intersect.specs.Matching.{has_shape}
 use Rattle.tib_intersect.specs.PairListing.{states_of, Agree, IsListed, Stands, AreListedFrom}
 use Rattle.tib_lex.proofs.Booleans.{and-true, and-both}
 use Rattle.tib_lex.proofs.Numbers.{nat_eq-true, nat_eq-same}
@@ -78,13 +78,13 @@ shape_of : (s : ℕ × ℕ × ℕ) (r : Rule ℕ) → IsOfShape s r → has_shap
 shape_of s r h = and-both _ _ (and-both _ _ (nat_eq-same r.left s.0 h.left) (is_label-same s.1 r.right.label h.root)) (nat_eq-same (count r.right.kids) s.2 h.many)
 
 -- a rule at a position of a shape
-pub place_of_shape : (rules : List (Rule ℕ)) (s : ℕ × ℕ × ℕ) (p : ℕ) → Has (positions_with s rules) p → (p < length rules) × IsOfShape s (rule_at rules p)
+pub place_of_shape : (rules : List (Rule ℕ)) (s : ℕ × ℕ × ℕ) (p : ℕ) → Has (positions_with has_shape s rules) p → (p < length rules) × IsOfShape s (rule_at rules p)
 place_of_shape rules s p h =
     let at = place_is (has_shape s) rules p no_rule h in
     (at.0, of_shape s (rule_at rules p) at.1)
 
 -- a rule of the shape has its position listed
-pub has_place_of_shape : (rules : List (Rule ℕ)) (s : ℕ × ℕ × ℕ) (p : ℕ) → p < length rules → IsOfShape s (rule_at rules p) → Has (positions_with s rules) p
+pub has_place_of_shape : (rules : List (Rule ℕ)) (s : ℕ × ℕ × ℕ) (p : ℕ) → p < length rules → IsOfShape s (rule_at rules p) → Has (positions_with has_shape s rules) p
 has_place_of_shape rules s p h is = is_place (has_shape s) rules p no_rule h (shape_of s (rule_at rules p) is)
 
 -- the rules of a state, and their positions
@@ -125,8 +125,8 @@ rule_of q rules m r h e =
 -- the matches of a rule
 module _ (twos : List (Rule ℕ)) (two_normal : AreNormal twos) (q f rank : ℕ) (one : Rule ℕ) (normal : IsNormalSide one.right) (root : one.right.label ≡ label f) (many : rank ≡ count one.right.kids) where
   -- each match agrees with the rule
-  pub matches_agree : Each (λ j. (j < length twos) × Agree one (rule_at twos j)) (positions_with (q, f, rank) twos)
-  matches_agree = each_of (λ j. (j < length twos) × Agree one (rule_at twos j)) (positions_with (q, f, rank) twos) (λ j h.
+  pub matches_agree : Each (λ j. (j < length twos) × Agree one (rule_at twos j)) (positions_with has_shape (q, f, rank) twos)
+  matches_agree = each_of (λ j. (j < length twos) × Agree one (rule_at twos j)) (positions_with has_shape (q, f, rank) twos) (λ j h.
       let at = place_of_shape twos (q, f, rank) j h in (
         at.0,
         record {
@@ -136,13 +136,13 @@ module _ (twos : List (Rule ℕ)) (two_normal : AreNormal twos) (q f rank : ℕ)
       ))
 
   -- each match leads from the second state
-  pub matches_left : (j : ℕ) → Has (positions_with (q, f, rank) twos) j → (rule_at twos j).left ≡ q
+  pub matches_left : (j : ℕ) → Has (positions_with has_shape (q, f, rank) twos) j → (rule_at twos j).left ≡ q
   matches_left j h = (place_of_shape twos (q, f, rank) j h).1.left
 
   -- each edge with a rule has its other rule among the matches
   pub edge_matches :
       (product : ℕ → ℕ → ℕ) (ones : List (Rule ℕ)) (key o : ℕ × ℕ) (e : Rule (ℕ × ℕ)) → key.1 ≡ q → one ≡ rule_at ones o.0 → IsPairEdge product ones twos key o e →
-      Has (positions_with (q, f, rank) twos) o.1
+      Has (positions_with has_shape (q, f, rank) twos) o.1
   edge_matches product ones key o e second is edge =
       let same : edge.root ≡ f = one_label edge.root f (rule_at ones o.0).right.label edge.first_root (ap (λ (r : Rule ℕ). r.right.label) (sym is) ∙ root) in
       has_place_of_shape twos (q, f, rank) o.1 edge.second (record {
@@ -208,19 +208,19 @@ rule_normal q rules m r normal rule = subst (λ (x : Rule ℕ). IsNormalSide x.r
 -- the matches of the index are those of the shape
 pub matches_fit :
     (others : List (Rule ℕ)) (matches : List ℕ) (t f rank : ℕ) (one : Rule ℕ) → AreNormal others → IsNormalSide one.right → one.right.label ≡ label f → rank ≡ count one.right.kids →
-    matches ≡ positions_with (t, f, rank) others → Each (λ j. (j < length others) × Agree one (rule_at others j)) matches
+    matches ≡ positions_with has_shape (t, f, rank) others → Each (λ j. (j < length others) × Agree one (rule_at others j)) matches
 matches_fit others matches t f rank one others_normal normal root many are =
     subst (Each (λ j. (j < length others) × Agree one (rule_at others j))) (sym are) (matches_agree others others_normal t f rank one normal root many)
 
 -- the matches are distinct
-pub matches_distinct : (others : List (Rule ℕ)) (matches : List ℕ) (t f rank : ℕ) → matches ≡ positions_with (t, f, rank) others → Distinct matches
+pub matches_distinct : (others : List (Rule ℕ)) (matches : List ℕ) (t f rank : ℕ) → matches ≡ positions_with has_shape (t, f, rank) others → Distinct matches
 matches_distinct others matches t f rank are = subst Distinct (sym are) (places_once (has_shape (t, f, rank)) others no_rule)
 
 -- the rule at place m of those of the first state, and its matches
 module _
     (product : ℕ → ℕ → ℕ) (ones others : List (Rule ℕ)) (order : List (ℕ × ℕ)) (n m : ℕ) (key : ℕ × ℕ) (one : Rule ℕ) (matches : List ℕ) (t f rank : ℕ)
     (rule : IsRuleOf key.0 ones m one) (normal : IsNormalSide one.right) (others_normal : AreNormal others) (root : one.right.label ≡ label f) (many : rank ≡ count one.right.kids)
-    (state : t ≡ key.1) (are : matches ≡ positions_with (t, f, rank) others) (within : n < length order) (at : pair_at order n ≡ key) where
+    (state : t ≡ key.1) (are : matches ≡ positions_with has_shape (t, f, rank) others) (within : n < length order) (at : pair_at order n ≡ key) where
   -- the rule and its matches lead from the pair
   pub stands_here : Stands ones others order (get_or (positions_of key.0 ones) m 0) n one matches
   stands_here = record {

@@ -3,7 +3,6 @@ pub mod PairGrammar
 pub mod PairRules
 pub mod PairLaws
 pub mod Matching
-pub mod IsIndex
 pub mod PairListing
 pub mod Intersection
 pub mod Answered

@@ -1,35 +1,24 @@
 //! The rules of a grammar in normal form by their left states and the labels and ranks of their
 //! right-hand sides.
 
-ghost use Rattle.std.specs.Prelude.{◌≡◌, ℕ, ◌<◌, ◌^◌, IfOk, length};
-ghost use Rattle.tib_grammar.specs.Forms.{AreNormal, IsNormalSide};
-ghost use Rattle.tib_grammar.specs.ShapeBuckets.{same_shape};
-ghost use Rattle.tib_intersect.specs.Matching.{has_shape};
-ghost use Rattle.tib_intersect.specs.IsIndex.{IsIndex};
-
-use std::alloc::{AllocError, Global};
 use tib_grammar::Rule;
-use tib_key_edges::{Shape, ShapeIndex};
+use tib_key_edges::{Shape, Shaping};
 
-/// The shape of a rule: its left state, the label at its root and its rank.
-fn shape_of(rule: &Rule<u32>) -> Shape
-    requires { IsNormalSide rule.now.right }
-    ensures { (s : ℕ × ℕ × ℕ) → has_shape s rule.now ≡ same_shape result s }
-{
-    let (label, rank) = rule.root();
-    (rule.left, label, rank)
-}
+/// By the left state of a rule, the label at its root and its rank.
+pub(crate) struct ByLeft;
 
-/// The positions of rules by their shapes, ascending. Err only if memory is refused. Cost: one
-/// look-up by hash for each rule.
-pub(crate) fn index_rules(alloc: Global, rules: &[Rule<u32>]) -> Result<ShapeIndex, AllocError>
-    requires few { length rules.now < 2 ^ 32 }
-    requires normal { AreNormal rules.now }
-    ensures { IfOk result (IsIndex rules.now) }
-{
-    let mut index = ShapeIndex::new(alloc);
-    for (n, rule) in rules.iter().enumerate() {
-        index.add(alloc, shape_of(rule), n as u32)?;
+impl Shaping for ByLeft {
+    ghost use Rattle.tib_grammar.specs.Forms.{IsNormalSide};
+    ghost use Rattle.tib_intersect.specs.Matching.{has_shape};
+
+    type Rule = Rule<u32>;
+
+    ghost has_shape = { has_shape };
+
+    ghost is_shaped = { λ r. IsNormalSide r.right };
+
+    fn shape_of(rule: &Rule<u32>) -> Shape {
+        let (label, rank) = rule.root();
+        (rule.left, label, rank)
     }
-    Ok(index)
 }

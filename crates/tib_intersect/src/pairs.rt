@@ -3,16 +3,17 @@
 ghost use Rattle.std.specs.Prelude.{◌≡◌, ℕ, ◌<◌, ◌≤◌, List, length, IfOk, Err};
 ghost use Rattle.tib_grammar.specs.Range.{StatesBelow};
 ghost use Rattle.tib_expand.specs.Reached.{most_parts};
-ghost use Rattle.tib_intersect.specs.IsIndex.{IsIndex};
+ghost use Rattle.tib_key_edges.specs.Positions.{IsIndex};
+ghost use Rattle.tib_intersect.specs.Matching.{has_shape};
 ghost use Rattle.tib_intersect.specs.PairListing.{IsWithinBudget, ListsPair, PairOverruns};
 
-use crate::index::index_rules;
+use crate::index::ByLeft;
 use crate::listing::PairListing;
 use crate::pair_rule::PairRule;
 use std::alloc::{AllocError, Global};
 use tib_cost::Semiring;
 use tib_expand::ExpandError;
-use tib_key_edges::{ShapeIndex, StatePair};
+use tib_key_edges::{ShapeIndex, StatePair, index_rules};
 use tib_normal::Normal;
 
 /// The pairs of a state of the one grammar and a state of the other, reached from the pair of the
@@ -24,7 +25,7 @@ pub struct Pairs<'a, S> {
     /// The second grammar.
     pub right: &'a Normal<S>,
     index: ShapeIndex,
-    pub ghost indexed: { IsIndex right.now.rules index },
+    pub ghost indexed: { IsIndex has_shape right.now.rules index },
     pub ghost left_start: { 0 < length left.now.names },
     pub ghost right_start: { 0 < length right.now.names },
     pub ghost left_range: { StatesBelow (length left.now.names) left.now.rules },
@@ -44,7 +45,7 @@ impl<'a, S: Semiring> Pairs<'a, S> {
     {
         left.grammar().is_sound();
         right.grammar().is_sound();
-        let index = index_rules(alloc, right.grammar().rule_list())?;
+        let index = index_rules::<ByLeft>(alloc, right.grammar().rule_list())?;
         Ok(Pairs { left, right, index })
     }
 

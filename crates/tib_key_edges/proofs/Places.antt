@@ -1,7 +1,8 @@
 -- The places of the values that pass a test, value by value.
-use Rattle.std.specs.Prelude.{◌≡◌, ℕ, ◌+◌, ◌<◌, Bool, true, false, List, [], ◌∷◌, ◌++◌, length, take, if◌then◌else◌, refl}
+use Rattle.std.specs.Prelude.{All, ◌≡◌, ℕ, ◌+◌, ◌<◌, Bool, true, false, List, [], ◌∷◌, ◌++◌, length, take, if◌then◌else◌, refl}
 use Rattle.std.proofs.Common.{zero, suc, ap, sym, ◌∙◌, subst, arith, add-zero, add-one, get_or, inl, inr}
 use Rattle.tib_lex.specs.Lists.{Has, Distinct}
+use Rattle.tib_lex.proofs.Places.{index_get}
 use Rattle.tib_key_edges.specs.Places.{places_from}
 
 module _ {A : Type 0} (test : A → Bool) where
@@ -88,3 +89,7 @@ module _ {A : Type 0} (test : A → Bool) where
 
   pub is_place : (xs : List A) (m : ℕ) (d : A) → m < length xs → test (get_or xs m d) ≡ true → Has (places_from 0 test xs) m
   is_place xs m d h e = let at : 0 + m ≡ m = omega arith in subst (Has (places_from 0 test xs)) at (are_places 0 xs m d h e)
+
+-- what holds at each place, read with one default, holds of all
+pub all_from : {A : Type 0} (P : A → Type 0) (xs : List A) (c : A) → ((n : ℕ) → n < length xs → P (get_or xs n c)) → All P xs
+all_from P xs c h k d low = subst P (sym (index_get xs k d c low)) (h k low)

@@ -1,7 +1,7 @@
 pub mod Keyed
 pub mod Ends
-pub mod Positions
 pub mod Places
+pub mod Positions
 pub mod SideRules
 pub mod SideRuleLaws
 pub mod Settling

@@ -12,6 +12,7 @@
 mod buckets;
 pub mod composition;
 pub mod composition_examples;
+mod indexing;
 pub mod laws;
 mod settling;
 mod shape_index;
@@ -20,6 +21,7 @@ mod side_rule;
 mod state_pair;
 
 pub use buckets::{Shape, ShapeIndex};
+pub use indexing::{Shaping, index_rules};
 pub use settling::settled_side;
 pub use side_listing::SideListing;
 pub use side_rule::SideRule;

@@ -5,7 +5,8 @@ use Rattle.std.specs.declared.result.Result.{Result}
 use Rattle.tib_expand.specs.declared.place.ExpandError.{ExpandError}
 use Rattle.tib_grammar.specs.GrammarOf.{GrammarOf}
 use Rattle.tib_grammar.specs.Forms.{AreNormal}
-use Rattle.tib_intersect.specs.Matching.{positions_with}
+use Rattle.tib_key_edges.specs.Places.{positions_with}
+use Rattle.tib_intersect.specs.Matching.{has_shape}
 use Rattle.tib_key_edges.specs.Ends.{key_at as pair_at}
 use Rattle.tib_intersect.specs.declared.listing.PairListing.{PairListing}
 use Rattle.tib_intersect.specs.PairListing.{Overruns}
@@ -37,8 +38,8 @@ add_matches-requires-clause-positions g c =
     let rule = rule_in key.0 ones c.loop-one.one-index c.first.result one c.rules_of-one-items.result.now c.rules_of-one-items.ensures c.first.ensures c.loop-one-test.true c.one-item.is in
     let normal = rule_normal key.0 ones c.loop-one.one-index one c.grammar.ensures.normal.normal rule in
     let others_normal : AreNormal others = subst AreNormal (sym o) c.grammar-2.ensures.normal.normal in
-    let are : matches ≡ positions_with (c.second.result, c.root-label.result.0, c.root-label.result.1) others =
-    c.find-matches.ensures ∙ c.args.self.now.indexed (c.second.result, c.root-label.result.0, c.root-label.result.1) ∙ ap (λ (rs : List (Rule ℕ)). positions_with (c.second.result, c.root-label.result.0, c.root-label.result.1) rs) (sym o) in
+    let are : matches ≡ positions_with has_shape (c.second.result, c.root-label.result.0, c.root-label.result.1) others =
+    c.find-matches.ensures ∙ c.args.self.now.indexed (c.second.result, c.root-label.result.0, c.root-label.result.1) ∙ ap (λ (rs : List (Rule ℕ)). positions_with has_shape (c.second.result, c.root-label.result.0, c.root-label.result.1) rs) (sym o) in
     matches_fit others matches c.second.result c.root-label.result.0 c.root-label.result.1 one others_normal normal c.root-label.ensures.label c.root-label.ensures.rank are
 
 pub add_matches-requires-clause-distinct : goal.add_matches-requires-clause-distinct
@@ -58,8 +59,8 @@ returns-in-Err-clause-more g c e order within at =
     let rule = rule_in key.0 ones c.loop-one.one-index c.first.result one c.rules_of-one-items.result.now c.rules_of-one-items.ensures c.first.ensures c.loop-one-test.true c.one-item.is in
     let normal = rule_normal key.0 ones c.loop-one.one-index one c.grammar.ensures.normal.normal rule in
     let others_normal : AreNormal others = subst AreNormal (sym o) c.grammar-2.ensures.normal.normal in
-    let are : matches ≡ positions_with (c.second.result, c.root-label.result.0, c.root-label.result.1) others =
-    c.find-matches.ensures ∙ c.args.self.now.indexed (c.second.result, c.root-label.result.0, c.root-label.result.1) ∙ ap (λ (rs : List (Rule ℕ)). positions_with (c.second.result, c.root-label.result.0, c.root-label.result.1) rs) (sym o) in
+    let are : matches ≡ positions_with has_shape (c.second.result, c.root-label.result.0, c.root-label.result.1) others =
+    c.find-matches.ensures ∙ c.args.self.now.indexed (c.second.result, c.root-label.result.0, c.root-label.result.1) ∙ ap (λ (rs : List (Rule ℕ)). positions_with has_shape (c.second.result, c.root-label.result.0, c.root-label.result.1) rs) (sym o) in
     let m = c.loop-one.one-index in
     let n = c.loop-one.listing.position in
     let same : n ≡ c.args.position = c.loop-one.invariant.position in
@@ -91,8 +92,8 @@ loop-one-preserved g c = record {
       let rule = rule_in key.0 ones c.loop-one.one-index c.first.result one c.rules_of-one-items.result.now c.rules_of-one-items.ensures c.first.ensures c.loop-one-test.true c.one-item.is in
       let normal = rule_normal key.0 ones c.loop-one.one-index one c.grammar.ensures.normal.normal rule in
       let others_normal : AreNormal others = subst AreNormal (sym o) c.grammar-2.ensures.normal.normal in
-      let are : matches ≡ positions_with (c.second.result, c.root-label.result.0, c.root-label.result.1) others =
-      c.find-matches.ensures ∙ c.args.self.now.indexed (c.second.result, c.root-label.result.0, c.root-label.result.1) ∙ ap (λ (rs : List (Rule ℕ)). positions_with (c.second.result, c.root-label.result.0, c.root-label.result.1) rs) (sym o) in
+      let are : matches ≡ positions_with has_shape (c.second.result, c.root-label.result.0, c.root-label.result.1) others =
+      c.find-matches.ensures ∙ c.args.self.now.indexed (c.second.result, c.root-label.result.0, c.root-label.result.1) ∙ ap (λ (rs : List (Rule ℕ)). positions_with has_shape (c.second.result, c.root-label.result.0, c.root-label.result.1) rs) (sym o) in
       let m = c.loop-one.one-index in
       let n = c.loop-one.listing.position in
       let same : n ≡ c.args.position = c.loop-one.invariant.position in
