@@ -113,7 +113,7 @@ fn find<S: Semiring, P>(
     let mut found = Vec::new(alloc);
     found.push(Partial {
         waiting,
-        states: Vec::new(alloc),
+        states: SmallVec::new(alloc),
         cost: S::one(),
     })?;
     for item in items {
@@ -132,10 +132,7 @@ fn list_matches(alloc: Global, found: Vec<Partial>) -> Result<Vec<Match>, AllocE
     let mut matches = Vec::with_capacity(alloc, found.len())?;
     for partial in found {
         let Partial { states, cost, .. } = partial;
-        matches.push(Match {
-            cost,
-            states: SmallVec::from_vec(states),
-        })?;
+        matches.push(Match { cost, states })?;
     }
     Ok(matches)
 }

@@ -5,6 +5,7 @@ ghost use Rattle.tib_grammar.specs.Items.{holes_in};
 ghost use Rattle.tib_grammar.specs.Sides.{holes_of};
 ghost use Rattle.tib_match.specs.Leading.{partial_of, partials_of, placed, all_placed, all_led, taken, all_taken};
 
+use smallvec::SmallVec;
 use std::alloc::{AllocError, Global};
 use tib_cost::{Cost, Semiring};
 use tib_grammar::{Item, Rule};
@@ -15,7 +16,7 @@ pub(crate) struct Partial {
     /// The states that wait for the rest of the side, the next one last.
     pub waiting: Vec<u32>,
     /// The states at the holes so far.
-    pub states: Vec<u32>,
+    pub states: SmallVec<u32, 4>,
     /// The product of the costs of the rules so far.
     pub cost: Cost,
 }
@@ -50,7 +51,7 @@ fn with_rule(
 {
     let mut waiting = partial.waiting[..partial.waiting.len() - 1].to_vec(alloc)?;
     push_states(&mut waiting, rule.right.items())?;
-    let states = partial.states.to_vec(alloc)?;
+    let states = SmallVec::from_slice(alloc, &partial.states)?;
     Ok(Partial {
         waiting,
         states,

@@ -90,10 +90,10 @@ fn push_halves(
 }
 
 // The first state of each span.
-fn first_states(alloc: Global, spans: &[Span]) -> Result<Vec<u32>, AllocError>
+fn first_states(alloc: Global, spans: &[Span]) -> Result<SmallVec<u32, 4>, AllocError>
     ensures { IfOk result (λ v. v.items ≡ lows spans.now) }
 {
-    let mut states = Vec::with_capacity(alloc, spans.len())?;
+    let mut states = SmallVec::with_capacity(alloc, spans.len())?;
     for span in spans {
         states.push(span.low)?;
     }
@@ -155,10 +155,7 @@ impl<'a, S: Semiring> Search<'a, S> {
             return Ok(());
         };
         let states = first_states(alloc, spans)?;
-        found.push(Match {
-            cost,
-            states: SmallVec::from_vec(states),
-        })?;
+        found.push(Match { cost, states })?;
         Ok(())
     }
 

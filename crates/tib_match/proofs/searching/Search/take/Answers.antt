@@ -1,10 +1,9 @@
-use Rattle.std.proofs.Common.{◌≡◌, ◌++◌, ◌∷◌, [], ap, ◌∙◌, subst, refl, Some, None, ℕ, List, length}
+use Rattle.std.proofs.Common.{◌++◌, ◌∷◌, [], ap, ◌∙◌, subst, refl, Some, None, ℕ, List, length}
 use Rattle.std.proofs.lemmas.List.{length-replicate}
 use Rattle.tib_cost.specs.Least.{IsLeast}
 use Rattle.tib_tree.specs.Trees.{preorder_of}
 use Rattle.tib_grammar.specs.Items.{pairs_of}
 use Rattle.tib_match.specs.Boxes.{all_spanned, IsReadBox}
-use Rattle.tib_match.specs.Searching.{lows}
 use Rattle.tib_match.specs.declared.hole_cost.HoleCost.TheVariants.{Free}
 use Rattle.tib_match.proofs.StackedItems.{side_nested, as_many}
 use Rattle.tib_match.proofs.searching.Search.take.Goals as goal
@@ -29,13 +28,12 @@ returns g c =
     let rules_of = c.args.self.now.normal.now.rules in
     let qs = c.args.self.now.state ∷ [] in
     let cost = c.in-Some.cost in
-    let states : c.from_vec.result.items ≡ lows c.args.spans.now = c.from_vec.ensures.items ∙ c.in_ok-states.ensures in
     record {
       least = Some cost;
       is_least = subst (λ hs. IsLeast (IsReadBox product rules_of (preorder_of c.args.side.now) qs (all_spanned c.args.spans.now hs)) (Some cost)) (c.deref.ensures.value ∙ c.in_ok-free.ensures)
           (subst (λ xs. IsLeast (IsReadBox product rules_of xs qs (all_spanned c.args.spans.now c.deref.result.now)) (Some cost)) c.items.ensures.items
           (subst (IsLeast (IsReadBox product rules_of (pairs_of c.items.result.now) qs (all_spanned c.args.spans.now c.deref.result.now))) c.in-Some.is c.in_ok-least.ensures));
-      found = c.in_ok-push.ensures.items ∙ ap (λ (ss : List ℕ). c.args.found.now.items ++ (ss, cost) ∷ []) states;
+      found = c.in_ok-push.ensures.items ∙ ap (λ (ss : List ℕ). c.args.found.now.items ++ (ss, cost) ∷ []) c.in_ok-states.ensures;
     }
 
 pub least_cost-requires-clause-nested : goal.least_cost-requires-clause-nested
