@@ -18,6 +18,7 @@ use Rattle.tib_strings.specs.ByText.{AgreeOnRight, AreOneStringRule, AreOneStrin
 use Rattle.tib_strings.specs.RuleValue.{nodes_of}
 use Rattle.tib_operations.proofs.ClassesByText.{IsOneDemand, IsDecided}
 use Rattle.tib_operations.proofs.OfCheck.{variables_along, all_used, all_used_back}
+use Rattle.tib_operations.proofs.OfDomain.{fault_not_met}
 use Rattle.tib_operations.specs.Parse.{parse_demands}
 
 -- one rule over two tables of labels
@@ -93,13 +94,6 @@ module _ (labels others : List (List ℕ)) where
 -- the first rule with a fault is one
 
 module _ (r : StringRule ℕ) where
-  fault_not_met : (e : ClassFault) → HasFault e r → IsLinear r → IsNondeleting r → ⊥
-  fault_not_met classes.NotLinear h l n = h l
-  fault_not_met classes.NotNondeleting h l n = h.1 n
-  fault_not_met classes.Extended h l n = h
-  fault_not_met classes.Labelled h l n = h
-  fault_not_met classes.NotStrict h l n = h
-
   one_fault : (e f : ClassFault) → HasFault e r → HasFault f r → e ≡ f
   one_fault classes.NotLinear classes.NotLinear a b = refl
   one_fault classes.NotLinear classes.NotNondeleting a b = absurd (a b.0)

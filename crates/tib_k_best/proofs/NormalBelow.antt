@@ -1,11 +1,11 @@
 -- The normal form of rules in deterministic form is deterministic below the root.
 use Rattle.std.specs.Prelude.{◌≡◌, ℕ, ◌+◌, ◌<◌, ◌⊎◌, List, [], ◌∷◌, ◌++◌, length, refl}
-use Rattle.std.proofs.Common.{arith, suc, ap, sym, ◌∙◌, subst, inl, inr, get_or}
+use Rattle.std.proofs.Common.{arith, suc, ap, sym, ◌∙◌, subst, inl, inr}
 use Rattle.tib_lex.specs.Lists.{Has}
-use Rattle.tib_lex.proofs.Members.{at_has, has_at}
-use Rattle.tib_cost.specs.Least.{IsLeast}
-use Rattle.tib_tree.specs.Trees.{Trees, none, tree, only}
-use Rattle.tib_grammar.specs.Forms.{IsDeterministic, IsLabel, IsNormalSide, IsStartChain, StandsInSide}
+use Rattle.tib_lex.proofs.Members.{has_at}
+use Rattle.tib_tree.specs.Trees.{Trees, none, tree}
+use Rattle.tib_tree.proofs.Orderings.{three_ways}
+use Rattle.tib_grammar.specs.Forms.{IsDeterministic, IsLabel}
 use Rattle.tib_grammar.specs.Range.{SidesEndInHoles}
 use Rattle.tib_grammar.specs.Run.{rule_at, no_rule}
 use Rattle.tib_grammar.specs.Sides.{AreHoles, HolesAreLeaves, Lone, Side as SideFor, Symbol, hole, holes_of, label}
@@ -13,9 +13,6 @@ use Rattle.tib_grammar.specs.declared.Rule.{Rule}
 use Rattle.tib_normal.specs.NormalForm.{IsChain, IsNormalForm, Reaches, all_inner, first_inner, heads, inner_rules}
 use Rattle.tib_ranked_trees.specs.Below.{IsDeterministicBelow, IsOuter}
 use Rattle.tib_ranked_trees.proofs.Walking.{ascends_at}
-
-three_ways : (i j : ℕ) → (i < j) ⊎ ((i ≡ j) ⊎ (j < i))
-three_ways i j = grind arith
 
 same_or : (i j : ℕ) → (i ≡ j) ⊎ (i ≡ j → ⊥)
 same_or i j = grind arith

@@ -5,8 +5,9 @@ use Rattle.std.proofs.Common.{arith, ap, sym, ◌∙◌, subst, inl, inr}
 use Rattle.tib_lex.specs.Lists.{Has}
 use Rattle.tib_lex.proofs.Members.{has_left, has_right}
 use Rattle.tib_lex.proofs.Booleans.{or-neither}
-use Rattle.tib_lex.proofs.Numbers.{nat_eq-true, nat_eq-itself}
+use Rattle.tib_lex.proofs.Numbers.{nat_eq-true}
 use Rattle.tib_tree.specs.Trees.{preorder_of}
+use Rattle.tib_tree.proofs.Orderings.{three_ways}
 use Rattle.tib_grammar.specs.Forms.{StandsInSide}
 use Rattle.tib_grammar.proofs.Holes.{pairs_same}
 use Rattle.tib_grammar.specs.Items.{pairs_of}
@@ -18,9 +19,6 @@ use Rattle.tib_k_best.specs.Apart.{AreApart, AreNoted}
 
 pub last : (k n : ℕ) → k < n + 1 → (k < n) ⊎ (k ≡ n)
 last k n h = grind arith
-
-three_ways : (i j : ℕ) → (i < j) ⊎ ((i ≡ j) ⊎ (j < i))
-three_ways i j = grind arith
 
 either : (b : Bool) → (b ≡ true) ⊎ (b ≡ false)
 either true = inl refl

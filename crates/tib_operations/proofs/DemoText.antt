@@ -63,7 +63,7 @@ pub all_digits : (n : ℕ) → list_all is_digit (decimal n) ≡ true
 unfolding digits
 all_digits n = digits_in_front 64 n [] refl
 
-digit_in_name : (c : ℕ) → is_digit c ≡ true → is_name_byte c ≡ true
+pub digit_in_name : (c : ℕ) → is_digit c ≡ true → is_name_byte c ≡ true
 digit_in_name c h = let t = and_true (nat_lt 47 c) (nat_lt c 58) h in grind (arith, nat_tests)
 
 -- `p` and a number, which is the name of a state

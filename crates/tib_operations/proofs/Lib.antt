@@ -49,8 +49,8 @@ pub mod OfCompare
 pub mod TextsAlike
 pub mod ShapesPlaced
 pub mod OfInvert
-pub mod OfRuns
 pub mod DerivationsThere
+pub mod OfRuns
 pub mod FirstSight
 pub mod KeptByText
 pub mod OfTrim

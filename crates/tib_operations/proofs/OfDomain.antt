@@ -165,7 +165,7 @@ domain_text scale product limit labels t d are read text h p = (
 
 -- why there is none
 module _ (r : StringRule ℕ) where
-  fault_not_met : (e : ClassFault) → HasFault e r → IsLinear r → IsNondeleting r → ⊥
+  pub fault_not_met : (e : ClassFault) → HasFault e r → IsLinear r → IsNondeleting r → ⊥
   fault_not_met classes.NotLinear h l n = h l
   fault_not_met classes.NotNondeleting h l n = h.1 n
   fault_not_met classes.Extended h l n = h

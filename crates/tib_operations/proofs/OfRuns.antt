@@ -15,7 +15,7 @@ use Rattle.tib_tree.specs.Grows.{Grows, AddsAll, AreDistinct}
 use Rattle.tib_tree.specs.Trees.{Trees, none, tree, only, preorder}
 use Rattle.tib_grammar.specs.GrammarOf.{GrammarOf}
 use Rattle.tib_grammar.specs.Run.{rule_at, no_rule as no_grammar_rule}
-use Rattle.tib_grammar.specs.Sides.{Symbol, label, hole, holes, holes_of, leaves, over, HolesAreLeaves}
+use Rattle.tib_grammar.specs.Sides.{Symbol, label, hole, holes, holes_of, leaves, HolesAreLeaves}
 use Rattle.tib_grammar.specs.StateName.{IsStateName, AreStateNames}
 use Rattle.tib_grammar.specs.declared.Rule.{Rule}
 use Rattle.tib_grammar.proofs.Sides.{holes_of-over}
@@ -28,7 +28,7 @@ use Rattle.tib_grammar_file.proofs.Alongs.{along_long}
 use Rattle.tib_grammar_file.proofs.OneGrammar.{number_same}
 use Rattle.tib_grammar_file.proofs.Plain.{stays, read_plain}
 use Rattle.tib_grammar_file.proofs.PrintedRules.{all_changes}
-use Rattle.tib_grammar_file.proofs.PrintedStates.{place, placed, gathered, all_added, all_from, starts_with}
+use Rattle.tib_grammar_file.proofs.PrintedStates.{all_from, starts_with}
 use Rattle.tib_grammar_file.proofs.RunsByText.{along_at}
 use Rattle.tib_grammar_file.proofs.TextRead.{FirstIsWord, first_words, all_names}
 use Rattle.tib_strings.proofs.OverTables.{added_grows}
@@ -40,16 +40,16 @@ use Rattle.tib_transducer.specs.declared.TransducerRule.{TransducerRule}
 use Rattle.tib_transducer_file.specs.ByName.{HasText, IsPlainLabel, IsPlainOnLeft, IsPlainOnRight, IsPrintable, states_of}
 use Rattle.tib_transducer_file.specs.ByText.{AgreeOnLeft, AgreeOnRight, AreOneTransducerRule, AreOneTransducer}
 use Rattle.tib_transducer_file.specs.Printed.{transducer_text}
-use Rattle.tib_transducer_file.proofs.OneByText.{all_added as stays_distinct}
 use Rattle.tib_canon.proofs.TransducerTexts.{stands}
 use Rattle.tib_rulewise.specs.Placed.{variables_from}
-use Rattle.tib_rulewise.specs.Derivations.{rule_text, rule_texts, read_from, derivation_rule, AreDerivationRules, IsDerivations}
+use Rattle.tib_rulewise.specs.Derivations.{rule_text, rule_texts, read_from, derivation_rule, IsDerivations}
 use Rattle.tib_rulewise.proofs.DerivationRuns.{gives}
 use Rattle.tib_rulewise.proofs.DerivedRules.{all_shaped, all_within}
 use Rattle.tib_rulewise.proofs.Placed.{length-variables}
 use Rattle.tib_operations.specs.Runs.{HasRunsSeries, HasRunsText}
 use Rattle.tib_operations.proofs.BestByText.{texts_apart}
 use Rattle.tib_operations.proofs.DemoText.{all_digits}
+use Rattle.tib_operations.proofs.DerivationsThere.{are_there}
 use Rattle.tib_operations.proofs.ReadSound.{read_sound}
 use Rattle.tib_operations.proofs.ShapesPlaced.{only_is, each_in_placed, placed_ends, as_many_holes, placed_agree}
 use Rattle.tib_operations.proofs.TextsAlike.{transducers_alike, text_of_one}
@@ -209,57 +209,14 @@ module _
             are;
       }
 
--- the derivations of a grammar over a table that has the labels of its rules
-module _ (all : List (List ℕ)) where
-  abbrev derived_from : ℕ → List (Rule ℕ) → List (TransducerRule ℕ)
-  derived_from n [] = []
-  derived_from n (r ∷ rules) = derivation_rule (place all (rule_text n)) r ∷ derived_from (suc n) rules
-
-  derived_long : (n : ℕ) (rules : List (Rule ℕ)) → length (derived_from n rules) ≡ length rules
-  derived_long n [] = refl
-  derived_long n (r ∷ rules) = ap suc (derived_long (suc n) rules)
-
-  derived_at : (n : ℕ) (rules : List (Rule ℕ)) (i : ℕ) → i < length rules → transducer_rule (derived_from n rules) i ≡ derivation_rule (place all (rule_text (n + i))) (rule_at rules i)
-  derived_at n [] i b = absurd (omega arith)
-  derived_at n (r ∷ rules) zero b = let e : n ≡ n + 0 = omega arith in ap (λ (m : ℕ). derivation_rule (place all (rule_text m)) r) e
-  derived_at n (r ∷ rules) (suc i) b =
-      let e : suc n + i ≡ n + suc i = omega arith in
-      derived_at (suc n) rules i (omega arith) ∙ ap (λ (m : ℕ). derivation_rule (place all (rule_text m)) (rule_at rules i)) e
-
-  are_derived : (rules : List (Rule ℕ)) → ((i : ℕ) → i < length rules → Has all (rule_text (suc i))) → AreDerivationRules all rules (derived_from 1 rules)
-  are_derived rules has = record {
-    many = derived_long 1 rules;
-    each = λ i b.
-        let e : 1 + i ≡ suc i = omega arith in
-        record {
-          root = place all (rule_text (suc i));
-          named = placed all (rule_text (suc i)) (has i b);
-          is = derived_at 1 rules i b ∙ ap (λ (m : ℕ). derivation_rule (place all (rule_text m)) (rule_at rules i)) e;
-        };
-  }
-
-texts_has : (n many i : ℕ) → i < many → Has (rule_texts n many) (rule_text (n + i))
-texts_has n zero i b = absurd (omega arith)
-texts_has n (suc many) zero b = let e : n ≡ n + 0 = omega arith in inl (ap rule_text e)
-texts_has n (suc many) (suc i) b =
-    let e : suc n + i ≡ n + suc i = omega arith in
-    inr (subst (λ (m : ℕ). Has (rule_texts (suc n) many) (rule_text m)) e (texts_has (suc n) many i (omega arith)))
-
 -- it is impossible that a grammar that has a text has none of its derivations
 pub runs_there :
     (scale : Scale) (product : ℕ → ℕ → ℕ) (labels : List (List ℕ)) → Distinct labels → (g : GrammarOf) → HasGrammarsText scale labels g → AreSmallRules g.rules → ((text : List ℕ) → HasRunsText scale product labels g text → ⊥) → ⊥
 runs_there scale product labels apart g h small never =
-    let texts : List (List ℕ) = rule_texts 1 (length g.rules) in
-    let table = gathered labels (rule_texts 1 (length g.rules)) in
-    let has : (i : ℕ) → i < length g.rules → Has table.0 (rule_text (suc i)) =
-    λ i b.
-    let e : 1 + i ≡ suc i = omega arith in
-    all_added labels texts table.0 table.1 (rule_text (suc i)) (subst (λ (m : ℕ). Has (rule_texts 1 (length g.rules)) (rule_text m)) e (texts_has 1 (length g.rules) i b))
-    in
-    let t : TransducerOf = record { names = g.names; rules = derived_from table.0 1 g.rules } in
-    never (transducer_text scale table.0 t)
-    (runs_text scale labels table.0 (added_grows labels texts table.0 table.1) g h small t (record { names = refl; rules = are_derived table.0 g.rules has }) product (transducer_text scale table.0 t)
-    (stays_distinct labels texts table.0 table.1 (texts_apart labels apart)) table.1 refl)
+    let there = are_there labels g (texts_apart labels apart) in
+    let t : TransducerOf = there.transducer in
+    never (transducer_text scale there.all t)
+    (runs_text scale labels there.all there.grows g h small t there.derivations product (transducer_text scale there.all t) there.distinct there.adds refl)
 
 -- a grammar that was read has a text
 

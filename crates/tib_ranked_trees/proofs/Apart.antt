@@ -1,9 +1,10 @@
 -- In rules that are deterministic below the root the candidates of a state stand for different
 -- trees.
 use Rattle.std.specs.Prelude.{◌≡◌, ℕ, ◌<◌, ◌⊎◌, Bool, Some, List, [], ◌∷◌, length, refl}
-use Rattle.std.proofs.Common.{arith, ap, sym, ◌∙◌, subst, inl, inr}
+use Rattle.std.proofs.Common.{ap, sym, ◌∙◌, subst, inl, inr}
 use Rattle.tib_lex.specs.Lists.{Has, Along}
 use Rattle.tib_tree.specs.Trees.{Tree, Trees, none, tree, only}
+use Rattle.tib_tree.proofs.Orderings.{three_ways}
 use Rattle.tib_cost.specs.Semiring.{ProductLaws}
 use Rattle.tib_cost.proofs.Least.{IsLeast-unique}
 use Rattle.tib_grammar.specs.Sides.{Side as SideFor, HolesAreLeaves, label, holes, holes_of, over}
@@ -25,9 +26,6 @@ use Rattle.tib_ranked_trees.proofs.Ranks.{cheaper_strict}
 use Rattle.tib_ranked_trees.proofs.Opening.{costs_of, root_label}
 use Rattle.tib_ranked_trees.proofs.Telling.{tree_same}
 use Rattle.tib_ranked_trees.proofs.Walking.{along_picked, ascends_at}
-
-three_ways : (i j : ℕ) → (i < j) ⊎ ((i ≡ j) ⊎ (j < i))
-three_ways i j = grind arith
 
 -- normal sides with the same label and holes are the same
 same_side :

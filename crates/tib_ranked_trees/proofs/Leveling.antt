@@ -4,6 +4,7 @@ use Rattle.std.proofs.Common.{arith, ap, sym, ◌∙◌, subst, inl, inr}
 use Rattle.std.proofs.lemmas.Bool.Decides.{nat_tests}
 use Rattle.tib_lex.specs.Lists.{Has, Each, Ascends}
 use Rattle.tib_tree.specs.Trees.{Tree, Trees, none, tree, join, only}
+use Rattle.tib_tree.proofs.Orderings.{three_ways}
 use Rattle.tib_cost.specs.Semiring.{most, ProductLaws}
 use Rattle.tib_cost.proofs.Least.{IsLeast-unique, at_least_right}
 use Rattle.tib_grammar.specs.Sides.{holes_of, fill}
@@ -247,9 +248,6 @@ module _ (labels : List (List ℕ)) where
         not_itself (cheaper_strict labels) y z same (each_has (Cheaper labels y) ys z a.0 h)),
     apart_free ys a.1 f.1,
   )
-
-three_ways : (a c : ℕ) → (a < c) ⊎ ((a ≡ c) ⊎ (c < a))
-three_ways a c = grind arith
 
 module _ {levelled weighted : Bool} {product : ℕ → ℕ → ℕ} (laws : ProductLaws levelled weighted product) (greater : IsTrue levelled) (labels : List (List ℕ)) (rules : List (Rule ℕ)) (normal : AreNormal rules)
     (c k : ℕ) (xs ys zs : List (Tree ℕ × ℕ)) (small : c ≤ most) (below : AreBelow product labels rules c xs) (first : IsFirst (IsTreeAt product (level c rules) 0) (Cheaper labels) k ys) (added : AreAdded xs c ys zs) where

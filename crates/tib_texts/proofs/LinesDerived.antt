@@ -4,13 +4,10 @@ use Rattle.std.specs.Prelude.{◌≡◌, ℕ, ◌+◌, ◌<◌, Bool, true, fals
 use Rattle.std.specs.List.{list_all}
 use Rattle.std.specs.Str.{bytes_eq}
 use Rattle.std.proofs.Common.{zero, suc, arith, ap, sym, ◌∙◌, subst, get_or, append-nil, append_assoc}
-use Rattle.std.proofs.lemmas.Bool.Decides.{nat_tests}
 use Rattle.std.proofs.lemmas.Option.{slice_get-get_or, get_or_from_slice_get}
-use Rattle.std.specs.Prelude.{nat_lt}
 use Rattle.tib_lex.specs.Bytes.{is_name_byte}
 use Rattle.tib_lex.specs.Grammar.{is_name}
 use Rattle.tib_lex.proofs.Places.{any_default}
-use Rattle.tib_lex.proofs.Spelled.{and_true}
 use Rattle.tib_tree.specs.Grows.{Grows}
 use Rattle.tib_tree.specs.Trees.{Trees, none, tree, only, count}
 use Rattle.tib_grammar.specs.Run.{rule_at}
@@ -33,13 +30,10 @@ use Rattle.tib_rulewise.specs.Placed.{placed, placed_side, variables_from}
 use Rattle.tib_rulewise.specs.Derivations.{rule_text, read_from, derivation_rule, AreDerivationRules}
 use Rattle.tib_rulewise.proofs.Placed.{placed-only, length-variables}
 use Rattle.tib_canon.proofs.StateNames.{digits_no_stop}
-use Rattle.tib_operations.proofs.DemoText.{all_digits}
+use Rattle.tib_operations.proofs.DemoText.{all_digits, digit_in_name}
 use Rattle.tib_texts.specs.RuleLines.{arrow_line, derivation_line}
 
 -- the label of a rule reads as one without quotes
-
-digit_in_name : (c : ℕ) → is_digit c ≡ true → is_name_byte c ≡ true
-digit_in_name c h = let t = and_true (nat_lt 47 c) (nat_lt c 58) h in grind (arith, nat_tests)
 
 name_if : (a b : Bool) → a ≡ true → b ≡ false → (a && not b) ≡ true
 name_if a b e f = rw (e, f) refl
