@@ -15,10 +15,10 @@ pub enum Watch {
 }
 
 impl Watch {
-    /// Whether it counted this many items, with this sum.
-    pub fn counts_are(&self, passes: u64, items: u64) -> bool {
+    /// Whether it counted this many items, with this sum and this sum of squares.
+    pub fn counts_are(&self, passes: u64, items: u64, squares: u64) -> bool {
         match self {
-            Watch::Count(counting) => counting.counts_are(passes, items),
+            Watch::Count(counting) => counting.counts_are(passes, items, squares),
             _ => false,
         }
     }
@@ -42,11 +42,12 @@ impl Gate for Watch {
     }
 }
 
-/// The number of the items that passed, and their sum.
+/// The number of the items that passed, their sum and the sum of their squares.
 #[derive(Drop)]
 pub struct Counting {
     passes: AtomicU64,
     items: AtomicU64,
+    squares: AtomicU64,
 }
 
 impl Counting {
@@ -55,18 +56,24 @@ impl Counting {
         Counting {
             passes: AtomicU64::new(0),
             items: AtomicU64::new(0),
+            squares: AtomicU64::new(0),
         }
     }
 
     // Counts an item.
     fn count(&self, item: u32) {
+        let item = u64::from(item);
         self.passes.fetch_add(1, Ordering::SeqCst);
-        self.items.fetch_add(u64::from(item), Ordering::SeqCst);
+        self.items.fetch_add(item, Ordering::SeqCst);
+        self.squares
+            .fetch_add(item.saturating_mul(item), Ordering::SeqCst);
     }
 
-    // Whether this many items passed, with this sum.
-    fn counts_are(&self, passes: u64, items: u64) -> bool {
-        self.passes.load(Ordering::SeqCst) == passes && self.items.load(Ordering::SeqCst) == items
+    // Whether this many items passed, with this sum and this sum of squares.
+    fn counts_are(&self, passes: u64, items: u64, squares: u64) -> bool {
+        self.passes.load(Ordering::SeqCst) == passes
+            && self.items.load(Ordering::SeqCst) == items
+            && self.squares.load(Ordering::SeqCst) == squares
     }
 }
 

@@ -2,9 +2,9 @@
 use crate::runs::rows::Row;
 use tib_operations::Status;
 
-// A row; how many keys its hunt reaches, with the sum of their positions; and the first of two
-// positions that are expanded in one round.
-pub type Hunt = (Row, u64, u64, u32);
+// A row; how many keys its hunt reaches, with the sum of their positions and that of the squares;
+// and the first of two positions that are expanded in one round.
+pub type Hunt = (Row, u64, u64, u64, u32);
 
 const LEAVES: &str = "q\nq -> S(r s) # 1\nr -> a # 2\ns -> b # 3\n";
 
@@ -28,6 +28,7 @@ pub static HUNTED: [Hunt; 12] = [
         ),
         3,
         3,
+        5,
         1,
     ),
     (
@@ -41,6 +42,7 @@ pub static HUNTED: [Hunt; 12] = [
         ),
         3,
         3,
+        5,
         1,
     ),
     (
@@ -54,6 +56,7 @@ pub static HUNTED: [Hunt; 12] = [
         ),
         3,
         3,
+        5,
         1,
     ),
     (
@@ -67,6 +70,7 @@ pub static HUNTED: [Hunt; 12] = [
         ),
         3,
         3,
+        5,
         1,
     ),
     (
@@ -80,6 +84,7 @@ pub static HUNTED: [Hunt; 12] = [
         ),
         3,
         3,
+        5,
         1,
     ),
     // each way to share the two words between r and s has two keys of its own
@@ -94,6 +99,7 @@ pub static HUNTED: [Hunt; 12] = [
         ),
         7,
         21,
+        91,
         1,
     ),
     (
@@ -107,6 +113,7 @@ pub static HUNTED: [Hunt; 12] = [
         ),
         3,
         3,
+        5,
         1,
     ),
     // the labels without children are the seeds
@@ -121,6 +128,7 @@ pub static HUNTED: [Hunt; 12] = [
         ),
         6,
         15,
+        55,
         0,
     ),
     (
@@ -134,6 +142,7 @@ pub static HUNTED: [Hunt; 12] = [
         ),
         3,
         3,
+        5,
         0,
     ),
     (
@@ -147,6 +156,7 @@ pub static HUNTED: [Hunt; 12] = [
         ),
         3,
         3,
+        5,
         0,
     ),
     (
@@ -160,6 +170,7 @@ pub static HUNTED: [Hunt; 12] = [
         ),
         3,
         3,
+        5,
         0,
     ),
     // the grammar that is made has 2^7 vectors; the third round has the positions 2 and 3
@@ -174,6 +185,7 @@ pub static HUNTED: [Hunt; 12] = [
         ),
         128,
         8128,
+        690880,
         2,
     ),
 ];

@@ -33,7 +33,7 @@ fn run_meeting<R: Threads + Wait + Sync>(
 
 // Whether the workers of both items met in the run of a row, and it wrote the row's text.
 fn meets<R: Threads + Wait + Sync>(rt: &R, alloc: Global, hunt: &Hunt) -> bool {
-    let gate = Watch::Meet(Meeting::new(hunt.3));
+    let gate = Watch::Meet(Meeting::new(hunt.4));
     let Ok(ran) = run_meeting(rt, alloc, &hunt.0, &gate) else {
         return false;
     };

@@ -39,7 +39,7 @@ fn pass_once<R: Threads + Wait + Sync>(
     let Ok(ran) = run_counting(rt, alloc, &hunt.0, workers, &gate) else {
         return false;
     };
-    is_untold(&hunt.0, &ran) && gate.counts_are(hunt.1, hunt.2)
+    is_untold(&hunt.0, &ran) && gate.counts_are(hunt.1, hunt.2, hunt.3)
 }
 
 // The same by each number of workers.
