@@ -5,7 +5,7 @@ use std::test::Fail;
 use tib_cost::{Bottleneck, Cost, MOST, MinPlus, Semiring};
 use tib_grammar::Grammar;
 use tib_normal::Normal;
-use tib_prune::{outside, prune, trim_with_insides};
+use tib_prune::{outside, prune, prune_to_count, trim_with_insides};
 
 /// Whether the outside costs of a grammar have these numbers.
 fn has_outsides<S: Semiring + Drop>(
@@ -45,6 +45,19 @@ fn pruned_of(alloc: Global, states: u8, rows: &[Row], beam: u64) -> Result<Norma
     let beam = beam_of(beam)?;
     let normal = make_normal::<MinPlus>(alloc, states, rows)?;
     Ok(prune::<MinPlus>(alloc, normal, beam)?)
+}
+
+/// The least pruned grammar of some rules over this number of states that keeps at least this many,
+/// and its beam.
+fn pruned_to(
+    alloc: Global,
+    states: u8,
+    rows: &[Row],
+    count: usize,
+) -> Result<(Grammar<MinPlus>, Cost), Fail> {
+    let normal = make_normal::<MinPlus>(alloc, states, rows)?;
+    let (trimmed, insides) = trim_with_insides::<MinPlus>(alloc, normal)?;
+    Ok(prune_to_count::<MinPlus>(alloc, trimmed, &insides, count)?)
 }
 
 /// The trimmed grammar of some rules over this number of states, and the inside costs of its
@@ -136,6 +149,27 @@ fn rules_beyond_the_beam_are_left_out(rt: HostRuntime) -> Result<(), Fail> {
     for (states, rows, beam, kept) in &PRUNED {
         let pruned = pruned_of(rt.alloc(), *states, *rows, *beam)?;
         assert!(rt; is_of(pruned.grammar(), u32::from(*states), *kept));
+    }
+    Ok(())
+}
+
+// How many states there are, the rules, how many are to stay, those that stay, and the beam. The
+// last row asks for more rules than there are.
+static PRUNED_TO: [(u8, &[Row], usize, &[Row], u64); 6] = [
+    (3, &TWO_WAYS, 0, &ONE_WAY, 0),
+    (3, &TWO_WAYS, 2, &ONE_WAY, 0),
+    (3, &TWO_WAYS, 3, &TWO_WAYS, 1),
+    (1, &BRANCHING, 1, &LEAF, 0),
+    (1, &BRANCHING, 2, &BRANCHING, 3),
+    (1, &BRANCHING, 9, &BRANCHING, 3),
+];
+
+#[test]
+fn at_least_so_many_rules_stay(rt: HostRuntime) -> Result<(), Fail> {
+    for (states, rows, count, kept, beam) in &PRUNED_TO {
+        let (pruned, least) = pruned_to(rt.alloc(), *states, *rows, *count)?;
+        assert!(rt; is_of(&pruned, u32::from(*states), *kept));
+        assert!(rt; least.get() == *beam);
     }
     Ok(())
 }
