@@ -18,7 +18,8 @@ use Rattle.tib_transducer.specs.declared.Variable.{Variable}
 use Rattle.tib_transducer.specs.declared.TransducerRule.{TransducerRule}
 use Rattle.tib_image.specs.Nodes.{subtree, Match, nodes_of}
 use Rattle.tib_image.specs.Image.{pair_key, IsImageEdge}
-use Rattle.tib_image.specs.Shapes.{has_shape, positions_with}
+use Rattle.tib_key_edges.specs.Places.{positions_with}
+use Rattle.tib_image.specs.Shapes.{has_shape}
 use Rattle.tib_image.specs.Walk.{walk}
 use Rattle.tib_key_edges.specs.Listing.{IsAdded}
 use Rattle.tib_key_edges.proofs.Listed.{listed_passed, listed_added, overruns_next}
@@ -90,7 +91,7 @@ itself f s e = ap (is_label f) e ∙ nat_eq-itself f
 
 -- the rules of the shape of a key, whose node has the label f and this many children
 module _ (moves : List (TransducerRule ℕ)) (t : Tree ℕ) (key : ℕ × ℕ) (state f rank : ℕ) (same : state ≡ key.0) (label_is : f ≡ (subtree t key.1).label) (rank_is : rank ≡ count (subtree t key.1).kids)
-    (ps : List ℕ) (is : ps ≡ positions_with (state, f, rank) moves) where
+    (ps : List ℕ) (is : ps ≡ positions_with has_shape (state, f, rank) moves) where
   -- each rule with an edge is one of them
   pub all_stand : ((m : ℕ) → m < length moves → IsShaped (transducer_rule moves m)) → (m : ℕ) (e : Rule (ℕ × ℕ)) → IsImageEdge moves t key m e → Has ps m
   all_stand shaped m e edge =

@@ -2,7 +2,6 @@
 pub mod Answered
 pub mod Examples
 pub mod Image
-pub mod IsIndex
 pub mod KeyRanges
 pub mod Laws
 pub mod Listing

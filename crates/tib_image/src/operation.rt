@@ -6,17 +6,18 @@ ghost use Rattle.tib_expand.specs.Reached.{most_parts};
 ghost use Rattle.tib_transducer.specs.Rules.{transducer_rule};
 ghost use Rattle.tib_image.specs.Image.{IsImageEdge};
 ghost use Rattle.tib_image.specs.Nodes.{subtree};
-ghost use Rattle.tib_image.specs.IsIndex.{IsIndex};
+ghost use Rattle.tib_key_edges.specs.Positions.{IsIndex};
+ghost use Rattle.tib_image.specs.Shapes.{has_shape};
 ghost use Rattle.tib_key_edges.specs.Listing.{IsWithinBudget};
 ghost use Rattle.tib_image.specs.Listing.{ListsOrigin, OriginOverruns, ListsKey, KeyOverruns};
 
-use crate::index::index_rules;
+use crate::index::ByRoot;
 use crate::key::Key;
 use crate::listing::{Listing, add_edge};
 use crate::walk::match_items;
 use std::alloc::{AllocError, Global};
 use tib_expand::ExpandError;
-use tib_key_edges::ShapeIndex;
+use tib_key_edges::{ShapeIndex, index_rules};
 use tib_transducer::Transducer;
 use tib_tree::{Label, Tree};
 
@@ -46,7 +47,7 @@ pub struct Image<'a, S> {
     /// The tree.
     pub tree: &'a Tree,
     index: ShapeIndex,
-    pub ghost indexed: { IsIndex transducer.now.rules index },
+    pub ghost indexed: { IsIndex has_shape transducer.now.rules index },
     pub ghost few: { size tree.now < 2 ^ 32 },
 }
 
@@ -62,7 +63,8 @@ impl<'a, S> Image<'a, S> {
         ensures tree { IfOk result (λ i. i.tree.now ≡ tree.now) }
     {
         let _nodes = size_of_tree(tree);
-        let index = index_rules(alloc, transducer)?;
+        transducer.is_sound();
+        let index = index_rules::<ByRoot>(alloc, transducer.rule_list())?;
         Ok(Image {
             transducer,
             tree,
