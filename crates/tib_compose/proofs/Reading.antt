@@ -1,6 +1,7 @@
 -- What an index of the rules holds, rule by rule.
-use Rattle.std.specs.Prelude.{◌≡◌, ℕ, ◌+◌, ◌&&◌, nat_eq, Bool, true, false, List, [], ◌∷◌, ◌++◌, if◌then◌else◌, refl}
-use Rattle.std.proofs.Common.{ap, sym, ◌∙◌, append-nil, add-one, get_or}
+use Rattle.std.specs.Prelude.{◌≡◌, ℕ, ◌+◌, ◌≤◌, ◌&&◌, nat_eq, Bool, true, false, List, [], ◌∷◌, ◌++◌, length, take, if◌then◌else◌, refl}
+use Rattle.std.proofs.Common.{ap, arith, sym, ◌∙◌, append-nil, get_or, zero, suc}
+use Rattle.std.proofs.lemmas.List.{take_all}
 use Rattle.tib_lex.proofs.Lists.{head_is}
 use Rattle.tib_tree.specs.Trees.{count, preorder_of}
 use Rattle.tib_grammar.specs.Sides.{Symbol, label, Side as SideFor}
@@ -8,11 +9,13 @@ use Rattle.tib_grammar.specs.Items.{pairs_of, pair_of}
 use Rattle.tib_grammar.specs.declared.Item.{Item}
 use Rattle.tib_grammar.specs.declared.Item.TheVariants.{Label}
 use Rattle.tib_grammar.specs.ShapeBuckets.{same_shape}
-use Rattle.tib_transducer.specs.Rules.{transducer_rule}
+use Rattle.tib_transducer.specs.Rules.{transducer_rule, no_rule}
 use Rattle.tib_transducer.specs.declared.TransducerRule.{TransducerRule}
 use Rattle.tib_key_edges.specs.Choices.{reads_label}
-use Rattle.tib_compose.specs.Readers.{readers, IsFlat}
+use Rattle.tib_key_edges.specs.Places.{places_from}
+use Rattle.tib_compose.specs.Readers.{readers, readers_with, has_shape, IsFlat}
 use Rattle.tib_key_edges.proofs.Choosing.{are_holes_of}
+use Rattle.tib_key_edges.proofs.Places.{places-more}
 
 -- the first item of a side that has a label at its root
 pub first_item : {P : Type 0} (items : List (Item P)) (s : SideFor ℕ P) (f n : ℕ) → pairs_of items ≡ preorder_of s → get_or items 0 (Label 0 0) ≡ Label f n → (s.label ≡ label f) × (count s.kids ≡ n)
@@ -33,16 +36,18 @@ shape_reads r g k flat root many s =
     by_case false true c = refl
     by_case false false c = refl
 
--- the index of one more rule
-pub one_reader :
-    (two : List (TransducerRule ℕ)) (s : ℕ × ℕ × ℕ) (m : ℕ) (b : Bool) (r : TransducerRule ℕ) → r ≡ transducer_rule two m → reads_label s.0 s.1 s.2 r ≡ b → (before after : List ℕ) →
-    before ≡ readers two s.0 s.1 s.2 m → after ≡ (if b then before ++ m ∷ [] else before) → after ≡ readers two s.0 s.1 s.2 (m + 1)
-one_reader two s m b r at is before after e k =
-    let same : reads_label s.0 s.1 s.2 (transducer_rule two m) ≡ b = ap (reads_label s.0 s.1 s.2) (sym at) ∙ is in
-    k ∙ by_case b before ∙ ap (λ xs. xs ++ (if b then m ∷ [] else [])) e
-    ∙ ap (λ t. readers two s.0 s.1 s.2 m ++ (if t then m ∷ [] else [])) (sym same)
-    ∙ ap (readers two s.0 s.1 s.2) (sym (add-one m))
-  where
-    by_case : (b : Bool) (xs : List ℕ) → (if b then xs ++ m ∷ [] else xs) ≡ xs ++ (if b then m ∷ [] else [])
-    by_case true xs = refl
-    by_case false xs = sym (append-nil xs)
+-- the places of the rules of a shape are its readers
+module _ (two : List (TransducerRule ℕ)) (p f n : ℕ) where
+  by_case : (b : Bool) (m : ℕ) (xs ys : List ℕ) → xs ≡ ys → (if b then xs ++ (0 + m) ∷ [] else xs) ≡ ys ++ (if b then m ∷ [] else [])
+  by_case true m xs ys e = let same : 0 + m ≡ m = omega arith in ap (λ k. xs ++ k ∷ []) same ∙ ap (λ zs. zs ++ m ∷ []) e
+  by_case false m xs ys e = e ∙ sym (append-nil ys)
+
+  places_readers : (m : ℕ) → m ≤ length two → places_from 0 (reads_label p f n) (take m two) ≡ readers two p f n m
+  places_readers zero h = refl
+  places_readers (suc m) h =
+      places-more (reads_label p f n) two 0 m no_rule (omega (arith, h))
+      ∙ by_case (reads_label p f n (transducer_rule two m)) m (places_from 0 (reads_label p f n) (take m two)) (readers two p f n m) (places_readers m (omega (arith, h)))
+
+pub readers_there : (two : List (TransducerRule ℕ)) (s : ℕ × ℕ × ℕ) → places_from 0 (has_shape s) two ≡ readers_with s two
+readers_there two s =
+    ap (places_from 0 (reads_label s.0 s.1 s.2)) (sym (take_all (length two) two (omega arith))) ∙ places_readers two s.0 s.1 s.2 (length two) (omega arith)

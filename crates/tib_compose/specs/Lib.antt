@@ -1,5 +1,4 @@
 pub mod Readers
-pub mod IsIndex
 pub mod ChoiceView
 pub mod EdgeLaws
 pub mod NamedItems

@@ -1,5 +1,5 @@
 -- The rules of the second transducer by their state and by the label and the rank that they read.
-use Rattle.std.specs.Prelude.{◌≡◌, ℕ, ◌<◌, List, [], ◌∷◌, ◌++◌, length, if◌then◌else◌}
+use Rattle.std.specs.Prelude.{◌≡◌, ℕ, ◌<◌, Bool, List, [], ◌∷◌, ◌++◌, length, if◌then◌else◌}
 use Rattle.std.proofs.Common.{zero, suc}
 use Rattle.tib_grammar.specs.Sides.{label, AreHoles}
 use Rattle.tib_key_edges.specs.Positions.{positions_of}
@@ -18,9 +18,13 @@ readers two p f n (suc m) = readers two p f n m ++ (if reads_label p f n (transd
 abbrev pub readers_with : ℕ × ℕ × ℕ → List (TransducerRule ℕ) → List ℕ
 readers_with s two = readers two s.0 s.1 s.2 (length two)
 
--- for each shape the first m positions of its rules
-abbrev pub HoldsReaders : List (TransducerRule ℕ) → ℕ → ShapeIndex → Type 0
-HoldsReaders two m index = (s : ℕ × ℕ × ℕ) → positions_of index s ≡ readers two s.0 s.1 s.2 m
+-- the shape of a rule: its state, and the label and the rank that it reads
+abbrev pub has_shape : ℕ × ℕ × ℕ → TransducerRule ℕ → Bool
+has_shape s r = reads_label s.0 s.1 s.2 r
+
+-- an index has for each shape the positions of its rules
+abbrev pub HoldsReaders : List (TransducerRule ℕ) → ShapeIndex → Type 0
+HoldsReaders two index = (s : ℕ × ℕ × ℕ) → positions_of index s ≡ readers_with s two
 
 -- the left-hand side is one label over variables
 pub record IsFlat (r : TransducerRule ℕ) : Type 0 where

@@ -4,12 +4,12 @@ ghost use Rattle.std.specs.Prelude.{◌≡◌, ℕ, ◌<◌, length, IfOk, IfErr
 ghost use Rattle.tib_transducer.specs.Outside.{demands, AllMeet};
 ghost use Rattle.tib_transducer.specs.Faults.{IsClassFault};
 ghost use Rattle.tib_compose.specs.EdgeLaws.{StatesBelow};
-ghost use Rattle.tib_compose.specs.IsIndex.{IsIndex};
+ghost use Rattle.tib_compose.specs.Readers.{HoldsReaders};
 ghost use Rattle.tib_transducer.specs.Moves.{IsStateIndex};
 
-use crate::index::index_rules;
+use crate::index::ByReading;
 use std::alloc::Global;
-use tib_key_edges::ShapeIndex;
+use tib_key_edges::{ShapeIndex, index_rules};
 use tib_transducer::{ClassError, StateIndex, Transducer, first_outside};
 
 /// The pairs of a state of the first transducer and a state of the second, reached from the pair of
@@ -22,7 +22,7 @@ pub struct Composite<'a, S> {
     pub second: &'a Transducer<S>,
     pub(crate) index: ShapeIndex,
     pub(crate) moves: StateIndex,
-    pub ghost indexed: { IsIndex second.now.rules index },
+    pub ghost indexed: { HoldsReaders second.now.rules index },
     pub ghost moved: { IsStateIndex first.now.rules moves },
     pub ghost first_start: { 0 < length first.now.names },
     pub ghost second_start: { 0 < length second.now.names },
@@ -56,7 +56,7 @@ impl<'a, S> Composite<'a, S> {
         let Ok(moves) = StateIndex::new(alloc, first) else {
             return Err(ClassError::OutOfMemory);
         };
-        match index_rules(alloc, second.rule_list()) {
+        match index_rules::<ByReading>(alloc, second.rule_list()) {
             Ok(index) => Ok(Composite {
                 first,
                 second,

@@ -1,5 +1,5 @@
 use Rattle.tib_compose.proofs.Reading.{first_item, shape_reads}
-use Rattle.tib_compose.proofs.index.shape_of.Goals as goal
+use Rattle.tib_compose.proofs.index.ByReadingShaping.shape_of.Goals as goal
 
 pub returns : goal.returns
 returns c =
