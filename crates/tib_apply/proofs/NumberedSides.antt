@@ -1,8 +1,9 @@
 -- Sides with numbers in place of what they carry, item by item.
-use Rattle.std.specs.Prelude.{◌≡◌, ℕ, ◌+◌, ◌-◌, ◌<◌, ◌≤◌, List, [], ◌∷◌, ◌++◌, length, map, take, drop, slice_set, refl}
+use Rattle.std.specs.Prelude.{◌≡◌, ℕ, ◌+◌, ◌-◌, ◌<◌, ◌≤◌, ◌^◌, List, [], ◌∷◌, ◌++◌, length, map, take, drop, slice_set, refl}
 use Rattle.std.proofs.Common.{zero, suc, arith, ap, sym, ◌∙◌, subst, inl, inr, get_or, append_assoc, add-one}
 use Rattle.std.proofs.lemmas.List.{map-append, map_more, get_or-set_same, get_or-set_other, take_all}
 use Rattle.tib_lex.specs.Lists.{Each}
+use Rattle.tib_lex.proofs.Lists.{length_map}
 use Rattle.tib_lex.proofs.Numbers.{nat_eq_cases}
 use Rattle.tib_tree.specs.Trees.{Trees, none, tree, count, preorder, preorder_of, relabel}
 use Rattle.tib_grammar.specs.Sides.{label, hole, Side as SideFor, side_map, symbol_map, holes_of}
@@ -138,6 +139,17 @@ pub side_with :
     {P : Type 0} (f : P → ℕ) (s : SideFor ℕ P) (items : List (Item P)) (i : ℕ) (now : List (Item ℕ)) (side : SideFor ℕ ℕ) → pairs_of items ≡ preorder_of s → length items ≤ i →
     now ≡ map (item_with f) (take i items) → ((t : SideFor ℕ ℕ) → preorder_of t ≡ pairs_of now → side ≡ t) → side ≡ side_map f s
 side_with f s items i now side is all e one = one (side_map f s) (preorder_with f s items is ∙ ap (λ (xs : List (Item _)). pairs_of (map (item_with f) xs)) (sym (take_all i items all)) ∙ ap pairs_of (sym e))
+
+-- the items with numbers are few where the items are
+pub items_few :
+    {P : Type 0} (f : P → ℕ) (items : List (Item P)) (i : ℕ) (now : List (Item ℕ)) → length items ≤ i → now ≡ map (item_with f) (take i items) → length items < 2 ^ 32 → length now < 2 ^ 32
+items_few f items i now all e few = omega (arith, ap (λ (xs : List (Item ℕ)). length xs) e, length_map (item_with f) (take i items), ap (λ (xs : List (Item _)). length xs) (take_all i items all), few)
+
+-- the items are those of the side over numbers
+pub side_there :
+    {P : Type 0} (f : P → ℕ) (s : SideFor ℕ P) (items : List (Item P)) (i : ℕ) (now : List (Item ℕ)) → pairs_of items ≡ preorder_of s → length items ≤ i →
+    now ≡ map (item_with f) (take i items) → (t : SideFor ℕ ℕ) × (preorder_of t ≡ pairs_of now)
+side_there f s items i now is all e = (side_map f s, preorder_with f s items is ∙ ap (λ (xs : List (Item _)). pairs_of (map (item_with f) xs)) (sym (take_all i items all)) ∙ ap pairs_of (sym e))
 
 -- what holds of all that a side carries holds of what one of its items carries
 pub each_of_side :

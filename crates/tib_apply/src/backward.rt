@@ -46,8 +46,8 @@ pub struct Backward<'a, S> {
 impl<'a, S: Semiring> Backward<'a, S> {
     /// What is hunted for a transducer and a grammar. `Class` exactly where the transducer is not
     /// linear and nondeleting: it names the first such rule, and linear comes before nondeleting.
-    /// `OutOfMemory` only if memory is refused. Cost: a few passes over the rules of the
-    /// transducer.
+    /// `OutOfMemory` only if memory is refused, or there are more than 4,000,000,000 labels of
+    /// variables. Cost: a few passes over the rules of the transducer.
     pub fn new(
         alloc: Global,
         transducer: &'a Transducer<S>,

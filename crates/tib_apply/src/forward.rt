@@ -50,9 +50,9 @@ pub struct Forward<'a, S> {
 
 impl<'a, S: Semiring> Forward<'a, S> {
     /// What is hunted for a grammar and a transducer. `Class` exactly where the transducer is not
-    /// linear: it names the first such rule. `OutOfMemory` only if memory is refused. Cost: a few
-    /// passes over the rules of both, with one look-up by hash for each rule of the grammar, and
-    /// the inside costs of the grammar.
+    /// linear: it names the first such rule. `OutOfMemory` only if memory is refused, or there are
+    /// more than 4,000,000,000 labels of variables. Cost: a few passes over the rules of both, with
+    /// one look-up by hash for each rule of the grammar, and the inside costs of the grammar.
     pub fn new(
         alloc: Global,
         grammar: &'a Normal<S>,

@@ -3,7 +3,7 @@
 ghost use Rattle.std.specs.Prelude.{◌≡◌, ◌^◌, ◌+◌, ◌<◌, ◌≤◌, ◌++◌, ◌∷◌, [], ℕ, length, map, IfOk, OnOk, slice_index};
 ghost use Rattle.std.proofs.Common.{get_or};
 ghost use Rattle.tib_lex.specs.Lists.{Each};
-ghost use Rattle.tib_tree.specs.Trees.{preorder_of};
+ghost use Rattle.tib_tree.specs.Trees.{preorder_of, size};
 ghost use Rattle.tib_grammar.specs.Sides.{Side as SideFor, side_map, holes_of};
 ghost use Rattle.tib_grammar.specs.Items.{holes_in, pairs_of};
 ghost use Rattle.tib_apply.specs.Backward.{states_at};
@@ -78,17 +78,15 @@ pub(crate) fn push_keys(
     Ok(())
 }
 
-// The side whose preorder the items are. Err only if they are more than memory holds.
-fn side_of(items: Vec<Item<u32>>) -> Result<Side<u32>, AllocError>
-    ensures { IfOk result (λ side. (s : SideFor ℕ ℕ) → preorder_of s ≡ pairs_of items.items → side
-        ≡ s) }
+// The side whose preorder the items are.
+fn side_of(items: Vec<Item<u32>>) -> Side<u32>
+    requires few { length items.items < 2 ^ 32 }
+    requires there { (s : SideFor ℕ ℕ) × (preorder_of s ≡ pairs_of items.items) }
+    ensures { (s : SideFor ℕ ℕ) → preorder_of s ≡ pairs_of items.items → result ≡ s }
 {
-    if items.len() > 4_000_000_000 {
-        return Err(AllocError);
-    }
     match Side::from_preorder(items) {
-        Ok(side) => Ok(side),
-        Err(_) => Err(AllocError),
+        Ok(side) => side,
+        Err(_) => unreachable!(),
     }
 }
 
@@ -106,13 +104,15 @@ fn numbered_item(item: &Item<Variable>, first: u32) -> Item<u32>
     }
 }
 
-/// A side with the numbers of its variables, counted from the first, in place of these.
+/// A side with the numbers of its variables, counted from the first, in place of these. Err only if
+/// memory is refused.
 pub(crate) fn number_variables(
     alloc: Global,
     side: &Side<Variable>,
     first: u32,
 ) -> Result<Side<u32>, AllocError>
-    requires { Each (λ x. number_from first x < 2 ^ 32) (holes_of side.now) }
+    requires few { size side.now < 2 ^ 32 }
+    requires numbers { Each (λ x. number_from first x < 2 ^ 32) (holes_of side.now) }
     ensures { IfOk result (λ s. s ≡ side_map (number_from first) side.now) }
 {
     let items = side.items();
@@ -120,7 +120,7 @@ pub(crate) fn number_variables(
     for item in items {
         numbered.push(numbered_item(item, first))?;
     }
-    side_of(numbered)
+    Ok(side_of(numbered))
 }
 
 // An item with the position of an end in place of its number.
@@ -137,7 +137,8 @@ fn placed_item(item: &Item<u32>, ends: &[u32]) -> Item<u32>
     }
 }
 
-/// A side with the positions of ends in place of their numbers.
+/// A side with the positions of ends in place of their numbers. Err if memory is refused, or the
+/// side has more than 4,000,000,000 items.
 pub(crate) fn place_ends(
     alloc: Global,
     side: &Side<u32>,
@@ -147,9 +148,12 @@ pub(crate) fn place_ends(
     ensures { IfOk result (λ s. s ≡ side_map (slice_index ends.now) side.now) }
 {
     let items = side.items();
+    if items.len() > 4_000_000_000 {
+        return Err(AllocError);
+    }
     let mut placed = Vec::with_capacity(alloc, items.len())?;
     for item in items {
         placed.push(placed_item(item, ends))?;
     }
-    side_of(placed)
+    Ok(side_of(placed))
 }

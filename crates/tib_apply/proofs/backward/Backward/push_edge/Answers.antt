@@ -17,8 +17,11 @@ pub push_keys-requires : goal.push_keys-requires
 push_keys-requires g c =
     numbers_fit c.args.rule.now.left c.items-items.result.now c.items-items.ensures.items c.requires.shaped.numbered (length c.deref-2.result.now) (ap length c.deref-2.ensures.value ∙ c.in_ok-states.ensures.long)
 
-pub number_variables-requires : goal.number_variables-requires
-number_variables-requires g c =
+pub number_variables-requires-clause-few : goal.number_variables-requires-clause-few
+number_variables-requires-clause-few g c = omega (arith, c.requires.room, c.requires.within.budget)
+
+pub number_variables-requires-clause-numbers : goal.number_variables-requires-clause-numbers
+number_variables-requires-clause-numbers g c =
     numbers_room c.args.rule.now.left c.items-items.result.now c.items-items.ensures.items c.requires.shaped.numbered c.len-first.result c.args.list.now.parts c.args.list.now.budget
     (omega (arith, c.requires.within.few, c.len-first.ensures, c.args.list.now.ends.ok.0)) c.requires.room c.requires.within.budget
 
