@@ -3,7 +3,7 @@ use Rattle.std.specs.Prelude.{◌≡◌, ℕ, ◌+◌, ◌-◌, ◌<◌, ◌≤�
 use Rattle.std.proofs.Common.{zero, suc, arith, ap, sym, ◌∙◌, subst, get_or, append-nil, append_assoc}
 use Rattle.std.proofs.lemmas.List.{drop_more, get_or-map, length-map, map-append}
 use Rattle.tib_lex.specs.Lists.{Has, total}
-use Rattle.tib_lex.proofs.Lists.{head_is}
+use Rattle.tib_lex.proofs.Lists.{head_is, tail_is}
 use Rattle.tib_lex.proofs.Places.{take_drop}
 use Rattle.tib_cost.specs.Semiring.{most, cut, ProductLaws}
 use Rattle.tib_tree.specs.Trees.{Trees, preorder_of, parse, other_trees, count, HasChildren}
@@ -34,6 +34,11 @@ use Rattle.tib_compose.proofs.Taking.{hole_below, label_taken, no_pieces, one_pi
 use Rattle.tib_compose.proofs.Walking.{all_append, by_readers, drop_past, edges_append, has_there, is_reader, kids_count, known_from, total_front}
 use Rattle.tib_compose.proofs.Whole.{rule_comes, take_more, take_past}
 
+-- the place has a label
+abbrev HasLabel : Symbol ℕ (Pair ℕ) × ℕ → Type 0
+HasLabel (label f, n) = Unit {0}
+HasLabel (hole x, n) = ⊥
+
 -- pairs from a place on
 
 pub no_pairs : (items : List (Item (Pair ℕ))) → ArePairsFrom (length items) items
@@ -56,6 +61,36 @@ from_first (y ∷ items) zero h (x ∷ xs, e) = (xs, ap (λ zs. drop 1 zs) e)
 pub flat_there : (items : List (Item (Pair ℕ))) (f n : ℕ) (d : Item (Pair ℕ)) → 0 < length items → get_or items 0 d ≡ Label f n → ArePairsFrom 1 items → IsFlatOver (pairs_of items) f n
 flat_there [] f n d h at a = absurd (omega arith)
 flat_there (y ∷ items) f n d h at (xs, e) = (xs, ap (λ y. pair_of y ∷ pairs_of items) at ∙ ap (λ zs. (label f, n) ∷ zs) e)
+
+-- so there are pairs alone after the label
+pub flat_rest : (items : List (Item (Pair ℕ))) (f n : ℕ) → IsFlatOver (pairs_of items) f n → ArePairsFrom 1 items
+flat_rest items f n (xs, e) = (xs, ap (λ zs. drop 1 zs) e)
+
+count_leaves : (xs : List (Pair ℕ)) → count (parse (map leaf xs)) ≡ length xs
+count_leaves [] = refl
+count_leaves (x ∷ xs) = ap suc (count_leaves xs)
+
+-- no fewer than there are children
+pub flat_long : (items : List (Item (Pair ℕ))) (f n : ℕ) → HasChildren (pairs_of items) → IsFlatOver (pairs_of items) f n → n < length items
+flat_long items f n children (xs, e) =
+    let below : HasChildren ((label f, n) ∷ map leaf xs) = subst HasChildren e children in
+    omega (arith, below.1, count_leaves xs, ap length e, length-map items pair_of, length-map xs leaf)
+
+-- none of them is a label
+no_label : (items : List (Item (Pair ℕ))) (xs : List (Pair ℕ)) (i f n : ℕ) (d : Item (Pair ℕ)) → pairs_of items ≡ map leaf xs → i < length items → get_or items i d ≡ Label f n → ⊥
+no_label [] xs i f n d e h at = absurd (omega arith)
+no_label (y ∷ items) [] i f n d e h at = absurd (cc)
+no_label (Label g k ∷ items) (x ∷ xs) i f n d e h at =
+    let head : ◌≡◌ {A = Symbol ℕ (Pair ℕ) × ℕ} (label g, k) (hole x, 0) = head_is e in
+    subst HasLabel head tt
+no_label (Hole z ∷ items) (x ∷ xs) zero f n d e h at = absurd (let bad : ◌≡◌ {A = Item (Pair ℕ)} (Hole z) (Label f n) = at in cc)
+no_label (Hole z ∷ items) (x ∷ xs) (suc i) f n d e h at = no_label items xs i f n d (tail_is e) (omega arith) at
+
+pub no_label_below : (items : List (Item (Pair ℕ))) (i f n : ℕ) (d : Item (Pair ℕ)) → ArePairsFrom 1 items → i + 1 < length items → get_or items (i + 1) d ≡ Label f n → ⊥
+no_label_below [] i f n d a h at = absurd (omega arith)
+no_label_below (y ∷ items) i f n d (xs, e) h at =
+    let place : i + 1 ≡ suc i = omega arith in
+    no_label items xs i f n d e (omega arith) (ap (λ k. get_or (y ∷ items) k d) (sym place) ∙ at)
 
 -- after the label of such a side each place begins the trees from there on
 leaves_skipped : (v : ℕ) (xs : List (Pair ℕ)) → parse (drop v (map leaf xs)) ≡ other_trees v (parse (map leaf xs))
@@ -143,11 +178,6 @@ module _ (product : ℕ → ℕ → ℕ) (two : List (TransducerRule ℕ)) (read
 abbrev item_of : Symbol ℕ (Pair ℕ) × ℕ → Item (Pair ℕ)
 item_of (label f, n) = Label f n
 item_of (hole x, n) = Hole x
-
--- the place has a label
-abbrev HasLabel : Symbol ℕ (Pair ℕ) × ℕ → Type 0
-HasLabel (label f, n) = Unit {0}
-HasLabel (hole x, n) = ⊥
 
 -- the rules of a transducer that is there give all that a search needs
 pub are_ready : {levelled weighted : Bool} {product : ℕ → ℕ → ℕ} → ProductLaws levelled weighted product → (two : List (TransducerRule ℕ)) → AreShaped two → EndInHoles two → AreReady product two

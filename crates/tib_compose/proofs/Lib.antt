@@ -8,6 +8,7 @@ mod Advance
 mod Listed
 mod Walking
 mod Steps
+mod Turns
 mod Whole
 mod FlatEdges
 mod Expanded

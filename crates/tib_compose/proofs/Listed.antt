@@ -39,7 +39,7 @@ size_is s = ap suc (sym (length-preorder s.kids))
 pub items_size : {P : Type 0} (items : List (Item P)) (s : SideFor ℕ P) → pairs_of items ≡ preorder_of s → length items ≡ size s
 items_size items s e = sym (length-map items pair_of) ∙ ap length e ∙ sym (size_is s)
 
-length-placed : (n : ℕ) (items : List (Item (Pair (ℕ × ℕ)))) → length (placed n items) ≡ length items
+pub length-placed : (n : ℕ) (items : List (Item (Pair (ℕ × ℕ)))) → length (placed n items) ≡ length items
 length-placed n [] = refl
 length-placed n (Label f rank ∷ items) = ap suc (length-placed n items)
 length-placed n (Hole x ∷ items) = ap suc (length-placed (suc n) items)

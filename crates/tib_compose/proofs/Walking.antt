@@ -135,6 +135,15 @@ is_reader two p f n (suc k) m h a = last (reads_label p f n (transducer_rule two
     last true e before (inr (inl same)) = (omega (arith, same, h), subst (λ z. reads_label p f n (transducer_rule two z) ≡ true) same e)
     last true e before (inr (inr c)) = absurd c
 
+-- there are no more of them than rules
+pub few_readers : (two : List (TransducerRule ℕ)) (p f n k : ℕ) → length (readers two p f n k) ≤ k
+few_readers two p f n zero = omega arith
+few_readers two p f n (suc k) = by (reads_label p f n (transducer_rule two k)) (few_readers two p f n k)
+  where
+    by : (b : Bool) → length (readers two p f n k) ≤ k → length (readers two p f n k ++ (if b then k ∷ [] else [])) ≤ suc k
+    by true h = omega (arith, h, length-append (readers two p f n k) (k ∷ []))
+    by false h = omega (arith, h, length-append (readers two p f n k) [])
+
 -- the variables of such a rule are known
 pub known_from :
     (two : List (TransducerRule ℕ)) → AreShaped two → (p f n m : ℕ) → m < length two → reads_label p f n (transducer_rule two m) ≡ true →

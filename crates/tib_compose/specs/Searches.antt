@@ -1,5 +1,6 @@
 -- The search through all translations of a right-hand side.
-use Rattle.std.specs.Prelude.{◌≡◌, ℕ, ◌+◌, ◌≤◌, List, [], ◌∷◌, ◌++◌, length, map, reverse, take, drop, nat_le, if◌then◌else◌}
+use Rattle.std.specs.Prelude.{◌≡◌, ℕ, ◌+◌, ◌<◌, ◌≤◌, List, [], ◌∷◌, ◌++◌, length, map, reverse, take, drop, nat_le, if◌then◌else◌}
+use Rattle.tib_lex.specs.Lists.{Each}
 use Rattle.tib_tree.specs.Trees.{Trees, preorder_of}
 use Rattle.tib_cost.specs.Semiring.{most}
 use Rattle.tib_grammar.specs.Sides.{Symbol}
@@ -80,6 +81,10 @@ turn_at r search = record {
   next = search.branch.pending.next;
   tried = 0;
 }
+
+-- the labels of some turns are at places below n
+abbrev pub AreTurnsBelow : ℕ → List ReturnPoint → Type 0
+AreTurnsBelow n ts = Each (λ (t : ReturnPoint). t.reading.node < n) ts
 
 -- one more turn
 pub record Meets (r : Reading) (old new : Search) : Type 0 where

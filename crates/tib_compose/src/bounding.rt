@@ -105,14 +105,13 @@ impl<'a, S: Semiring> Composite<'a, S> {
         let mut seen = HashMap::new(alloc);
         let mut asked = Vec::new(alloc);
         asked.push((0u32, state))?;
-        for i in 0..usize::MAX {
-            let Some(next) = asked.get(i) else {
-                return Ok(asked);
-            };
-            let (node, state) = *next;
+        let mut i = 0;
+        while i < asked.len() {
+            let (node, state) = asked[i];
             self.ask_below(source, node, state, &mut seen, &mut asked)?;
+            i += 1;
         }
-        Err(AllocError)
+        Ok(asked)
     }
 
     /// What each translation of the tree of a node by the rule at a position costs at least.
@@ -124,6 +123,7 @@ impl<'a, S: Semiring> Composite<'a, S> {
         position: u32,
     ) -> Result<Option<Cost>, AllocError>
         requires below { position < length self.now.second.now.rules }
+        requires node { node < length source.now.ends.items }
         ensures { IfOk result (BoundsReader S.product self.now.second.now.rules source.now node
             position) }
     {
@@ -140,6 +140,7 @@ impl<'a, S: Semiring> Composite<'a, S> {
         source: &Source,
         reading: Reading,
     ) -> Result<Option<Cost>, AllocError>
+        requires node { reading.node < length source.now.ends.items }
         ensures { IfOk result (BoundsNode S.product self.now.second.now.rules source.now reading) }
     {
         let mut least = None;

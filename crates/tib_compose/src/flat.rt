@@ -1,10 +1,11 @@
 //! Right-hand sides of one label over pairs. Each rule that reads the label translates such a side,
 //! in one way, so no search is begun.
 
-ghost use Rattle.std.specs.Prelude.{◌≡◌, ◌<◌, IfSome, IsTrue, OnOk, Err, length};
+ghost use Rattle.std.specs.Prelude.{◌≡◌, ℕ, ◌<◌, true, IfSome, IsTrue, OnOk, Err, length};
 ghost use Rattle.tib_grammar.specs.Items.{pairs_of};
 ghost use Rattle.tib_tree.specs.Trees.{preorder_of};
 ghost use Rattle.tib_transducer.specs.Rules.{transducer_rule};
+ghost use Rattle.tib_key_edges.specs.Choices.{reads_label};
 ghost use Rattle.tib_compose.specs.FlatSides.{
   ArePairsFrom,
   IsFlatOver,
@@ -17,6 +18,7 @@ ghost use Rattle.tib_compose.specs.FlatSides.{
 };
 ghost use Rattle.tib_compose.specs.KeyEdges.{ListsRule, RuleOverruns};
 ghost use Rattle.tib_compose.specs.CompositionListing.{IsWithinBudget};
+ghost use Rattle.tib_compose.specs.PieceViews.{AreKnown, IsKnown};
 
 use crate::composite::Composite;
 use crate::listing::CompositionListing;
@@ -59,12 +61,14 @@ pub(crate) fn flat_root(items: &[Item<Pair<u32>>]) -> Option<(Label, u32)>
 }
 
 /// Puts out an item of a rule's right-hand side, where a variable stands for a pair of one label
-/// over pairs. Err also where there is no such pair.
+/// over pairs. Err only if memory is refused.
 fn put_below(
     items: &[Item<Pair<u32>>],
     item: &Item<Pair<u32>>,
     done: &mut Vec<Item<Pair<StatePair>>>,
 ) -> Result<(), AllocError>
+    requires pairs { ArePairsFrom 1 items.now }
+    requires known { (n : ℕ) × (n < length items.now) × IsKnown n item.now }
     ensures { OnOk result (PutsBelow items.now item.now done.old.items done.new.items) }
 {
     match item {
@@ -84,17 +88,21 @@ fn put_below(
                 }))?;
                 Ok(())
             }
-            _ => Err(AllocError),
+            Some(Item::Label { .. }) => unreachable!(),
+            None => unreachable!(),
         },
     }
 }
 
-/// Puts out a rule's right-hand side in place of one label over pairs.
+/// Puts out a rule's right-hand side in place of one label over pairs. Err only if memory is
+/// refused.
 fn put_right(
     items: &[Item<Pair<u32>>],
     right: &[Item<Pair<u32>>],
     done: &mut Vec<Item<Pair<StatePair>>>,
 ) -> Result<(), AllocError>
+    requires pairs { ArePairsFrom 1 items.now }
+    requires known { (n : ℕ) × (n < length items.now) × AreKnown n right.now }
     ensures { OnOk result (PutsRight items.now right.now done.new.items) }
 {
     done.clear();
@@ -141,6 +149,9 @@ impl<'a, S: Semiring> Composite<'a, S> {
         listing: &mut CompositionListing<'a>,
     ) -> Result<(), ExpandError>
         requires below { position < length self.now.second.now.rules }
+        requires pairs { ArePairsFrom 1 items.now }
+        requires reads { (p : ℕ) × (f : ℕ) × (n : ℕ) × (n < length items.now) × (reads_label p f n
+            (transducer_rule self.now.second.now.rules position) ≡ true) }
         requires within { IsWithinBudget listing.old }
         ensures listed { OnOk result (ListsReader S.product self.now.second.now.rules rule.now
             items.now position listing.old listing.new) }
@@ -150,6 +161,7 @@ impl<'a, S: Semiring> Composite<'a, S> {
         ensures within { OnOk result (IsWithinBudget listing.new) }
         ensures budget { OnOk result (listing.new.budget ≡ listing.old.budget) }
     {
+        self.second.is_sound();
         let reader = &self.second.rule_list()[position as usize];
         let Ok(()) = put_right(items, reader.right.items(), done) else {
             return Err(ExpandError::OutOfMemory);

@@ -14,13 +14,11 @@ use tib_grammar::{Item, Side};
 use tib_key_edges::StatePair;
 use tib_transducer::{Pair, Variable};
 
-/// The side of some items. Err also where they are no side, or too many to be counted.
+/// The side of some items. Err where they are no side.
 fn placed_side(items: Vec<Item<Pair<Place>>>) -> Result<Side<Pair<Place>>, AllocError>
+    requires few { length items.items < 2 ^ 32 }
     ensures { IfOk result (λ s. preorder_of s ≡ pairs_of items.items) }
 {
-    if items.len() > 4_000_000_000 {
-        return Err(AllocError);
-    }
     match Side::from_preorder(items) {
         Ok(side) => Ok(side),
         Err(_) => Err(AllocError),

@@ -36,21 +36,19 @@ pub(crate) fn piece_for(item: &Item<Pair<u32>>, ends: &[u32], node: u32) -> Piec
     }
 }
 
-/// Puts the pieces of a rule's right-hand side in place of a node, before what is left. Err also
-/// where the node is not there. Cost: for each variable one step for each child before it, and a
-/// look-up by hash.
+/// Puts the pieces of a rule's right-hand side in place of a node, before what is left. Err only if
+/// memory is refused. Cost: for each variable one step for each child before it, and a look-up by
+/// hash.
 pub(crate) fn push_pieces<S: Semiring>(
     pending: &mut Pending,
     right: &[Item<Pair<u32>>],
     source: &Source,
     node: u32,
 ) -> Result<(), AllocError>
+    requires node { node < length source.now.ends.items }
     ensures pieces { OnOk result (PutsPieces S.product right.now source.now node pending.old
         pending.new) }
 {
-    if node as usize >= source.ends.len() {
-        return Err(AllocError);
-    }
     let mut i = right.len();
     while i > 0 {
         i -= 1;

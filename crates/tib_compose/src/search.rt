@@ -1,7 +1,7 @@
 //! The search through all translations of a right-hand side: what comes next, and where it comes
 //! back to.
 
-ghost use Rattle.std.specs.Prelude.{◌≡◌, ◌++◌, ◌∷◌, [], OnOk, IfOk, take};
+ghost use Rattle.std.specs.Prelude.{◌≡◌, ◌<◌, ◌^◌, ◌++◌, ◌∷◌, [], OnOk, IfOk, take};
 ghost use Rattle.tib_compose.specs.Searches.{Begins, ComesBack, IsAgain, Meets};
 
 use crate::branch::{Branch, Reading};
@@ -80,9 +80,10 @@ impl Search {
         self.branch.pending.back_to(turn.tasks, turn.next);
     }
 
-    /// Keeps a turn at which one more rule was tried. Err if memory is refused, or `tried` is the
-    /// greatest number; then the turn is lost. Cost: that of `meet`.
+    /// Keeps a turn at which one more rule was tried. Err only if memory is refused; then the turn
+    /// is lost. Cost: that of `meet`.
     pub fn again(&mut self, turn: ReturnPoint) -> Result<(), AllocError>
+        requires few { turn.tried < 2 ^ 32 }
         ensures again { OnOk result (IsAgain turn self.old self.new) }
     {
         let ReturnPoint {
@@ -93,9 +94,6 @@ impl Search {
             next,
             tried,
         } = turn;
-        if tried == usize::MAX {
-            return Err(AllocError);
-        }
         self.turns.push(ReturnPoint {
             reading,
             cost,

@@ -2,6 +2,7 @@
 
 ghost use Rattle.std.specs.Prelude.{◌≡◌, ◌<◌, length, IfOk, OnOk, Err};
 ghost use Rattle.tib_compose.specs.CompositionListing.{IsWithinBudget};
+ghost use Rattle.tib_compose.specs.Searches.{AreTurnsBelow};
 ghost use Rattle.tib_compose.specs.Walk.{GoesOn, GoesTooFar, IsRead, Steps, StepsTooFar};
 
 use crate::branch::Branch;
@@ -28,12 +29,15 @@ pub(crate) fn go_on<'a>(
     listing: &mut CompositionListing<'a>,
 ) -> Result<(), ExpandError>
     requires within { IsWithinBudget listing.old }
+    requires turns { AreTurnsBelow (length source.now.items.now) search.old.turns.items }
     ensures goes { OnOk result (GoesOn source.now left.now search.old search.new listing.old
         listing.new) }
     ensures more { result ≡ Err ExpandError.More → GoesTooFar source.now left.now search.old
         listing.old }
     ensures within { OnOk result (IsWithinBudget listing.new) }
     ensures budget { OnOk result (listing.new.budget ≡ listing.old.budget) }
+    ensures turns { OnOk result (AreTurnsBelow (length source.now.items.now)
+        search.new.turns.items) }
 {
     let Ok(reading) = search.branch.advance(source.items) else {
         return Err(ExpandError::OutOfMemory);
@@ -62,6 +66,7 @@ impl<'a, S: Semiring> Composite<'a, S> {
         position: u32,
     ) -> Result<bool, AllocError>
         requires below { position < length self.now.second.now.rules }
+        requires node { turn.now.reading.node < length source.now.ends.items }
         ensures read { IfOk result (IsRead S.product self.now.second.now.rules source.now turn.now
             position branch.old branch.new) }
     {
@@ -89,13 +94,17 @@ impl<'a, S: Semiring> Composite<'a, S> {
         listing: &mut CompositionListing<'a>,
     ) -> Result<bool, ExpandError>
         requires within { IsWithinBudget listing.old }
+        requires turns { AreTurnsBelow (length source.now.items.now) search.old.turns.items }
         ensures steps { IfOk result (Steps S.product self.now.second.now.rules source.now left.now
             search.old search.new listing.old listing.new) }
         ensures more { result ≡ Err ExpandError.More → StepsTooFar S.product
             self.now.second.now.rules source.now left.now search.old listing.old }
         ensures within { OnOk result (IsWithinBudget listing.new) }
         ensures budget { OnOk result (listing.new.budget ≡ listing.old.budget) }
+        ensures turns { OnOk result (AreTurnsBelow (length source.now.items.now)
+            search.new.turns.items) }
     {
+        self.second.is_sound();
         let Some(turn) = search.turns.pop() else {
             return Ok(false);
         };

@@ -1,14 +1,22 @@
-use Rattle.std.proofs.Common.{◌≡◌, Err, refl, sym, ap, ◌∙◌, subst, Some, None, arith}
+use Rattle.std.proofs.Common.{◌≡◌, Err, refl, sym, ap, ◌∙◌, subst, Some, None, arith, length}
 use Rattle.tib_compose.specs.Branches.{IsAdvanced}
 use Rattle.tib_compose.specs.CompositionListing.{IsTooMuch, IsAdded}
+use Rattle.tib_compose.specs.Searches.{turn_at}
 use Rattle.tib_compose.specs.declared.search.Search.{Search}
 use Rattle.tib_compose.proofs.Steps.{on_to_label, on_to_end, on_too_far}
+use Rattle.tib_compose.proofs.Turns.{more_below}
 use Rattle.tib_compose.proofs.translating.go_on.Goals as goal
 
 pub returns-in-Ok-meet-clause-goes : goal.returns-in-Ok-meet-clause-goes
 returns-in-Ok-meet-clause-goes c = λ product two ready known order key all h.
     on_to_label c.args.source.now c.args.left.now product two ready known order key all c.args.search.now c.meet.new.self c.advance.new.self c.in-Some.reading c.args.listing.now
     (subst (IsAdvanced c.args.source.now.items.now c.args.search.now.branch c.advance.new.self) c.in-Some.is c.in-Ok.ensures.advanced) c.in-Ok-meet.ensures.meets h
+
+pub returns-in-Ok-meet-clause-turns : goal.returns-in-Ok-meet-clause-turns
+returns-in-Ok-meet-clause-turns c =
+    let a = subst (IsAdvanced c.args.source.now.items.now c.args.search.now.branch c.advance.new.self) c.in-Some.is c.in-Ok.ensures.advanced in
+    let old : Search = record { branch = c.advance.new.self; turns = c.args.search.now.turns } in
+    more_below (length c.args.source.now.items.now) c.args.search.now.turns.items c.meet.new.self.turns.items (turn_at c.in-Some.reading old) c.in-Ok-meet.ensures.meets.turns c.requires.turns a.at.0
 
 pub returns-in-Ok-add-clause-goes : goal.returns-in-Ok-add-clause-goes
 returns-in-Ok-add-clause-goes c = λ product two ready known order key all h.

@@ -6,16 +6,14 @@ use Rattle.tib_compose.proofs.Bounded.{one_more_has, whole_has}
 use Rattle.tib_compose.proofs.Walking.{has_there, is_reader}
 use Rattle.tib_compose.proofs.composite.Composite.label_bound.Goals as goal
 
-pub reader_bound-requires : goal.reader_bound-requires
-reader_bound-requires g c =
+pub reader_bound-requires-clause-below : goal.reader_bound-requires-clause-below
+reader_bound-requires-clause-below g c =
     let two = c.args.self.now.second.now.rules in
     let r = c.args.reading in
     let ps = c.find-position-items.result.now in
     let i = c.loop-position.position-index in
     let are : ps ≡ readers_with (r.state, r.label, r.rank) two = c.find-position-items.ensures ∙ c.args.self.now.indexed (r.state, r.label, r.rank) in
-    record {
-      below = (is_reader two r.state r.label r.rank (length two) (get_or ps i 0) (omega arith) (subst (λ xs. Has xs (get_or ps i 0)) are (has_there i ps 0 c.loop-position-test.true))).0;
-    }
+    (is_reader two r.state r.label r.rank (length two) (get_or ps i 0) (omega arith) (subst (λ xs. Has xs (get_or ps i 0)) are (has_there i ps 0 c.loop-position-test.true))).0
 
 pub loop-position-preserved : goal.loop-position-preserved
 loop-position-preserved g c = λ m h ready known p f rank low reads d k.

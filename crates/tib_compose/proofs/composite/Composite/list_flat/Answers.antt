@@ -10,7 +10,7 @@ use Rattle.tib_compose.specs.CompositionListing.{IsListing}
 use Rattle.tib_compose.specs.Readers.{readers_with}
 use Rattle.tib_compose.specs.Searches.{all_of}
 use Rattle.tib_compose.specs.Walk.{result_edges}
-use Rattle.tib_compose.proofs.FlatEdges.{are_ready, reader_more, readers_all, readers_front, reads_there, there}
+use Rattle.tib_compose.proofs.FlatEdges.{are_ready, flat_long, flat_rest, reader_more, readers_all, readers_front, reads_there, there}
 use Rattle.tib_compose.proofs.Walking.{has_there, is_reader}
 use Rattle.tib_compose.proofs.composite.Composite.list_flat.Goals as goal
 
@@ -28,6 +28,31 @@ list_reader-requires-clause-below g c =
     let i = c.loop-reader.reader-index in
     let are : ps ≡ readers_with (c.second.result, c.args.label, c.args.rank) two = c.find-reader-items.ensures ∙ c.args.self.now.indexed (c.second.result, c.args.label, c.args.rank) in
     (is_reader two c.second.result c.args.label c.args.rank (length two) (get_or ps i 0) (omega arith) (subst (λ xs. Has xs (get_or ps i 0)) are (has_there i ps 0 c.loop-reader-test.true))).0
+
+pub list_reader-requires-clause-pairs : goal.list_reader-requires-clause-pairs
+list_reader-requires-clause-pairs g c =
+    let one = c.args.self.now.first.now.rules in
+    let r = c.index-rule_list-position.result in
+    let at : r ≡ transducer_rule one c.args.position = there one c.rule_list.result.now c.args.position r c.rule_list.ensures c.requires.below (λ low d. get_or_read c.rule_list.result.now c.args.position r low c.index-rule_list-position.is no_rule) in
+    let items = c.items-items.result.now in
+    let is : pairs_of items ≡ preorder_of (transducer_rule one c.args.position).right = c.items-items.ensures.items ∙ ap (λ x. preorder_of x.right) at in
+    flat_rest items c.args.label c.args.rank (subst (λ xs. IsFlatOver xs c.args.label c.args.rank) (sym is) c.requires.flat)
+
+pub list_reader-requires-clause-reads : goal.list_reader-requires-clause-reads
+list_reader-requires-clause-reads g c =
+    let one = c.args.self.now.first.now.rules in
+    let two = c.args.self.now.second.now.rules in
+    let r = c.index-rule_list-position.result in
+    let at : r ≡ transducer_rule one c.args.position = there one c.rule_list.result.now c.args.position r c.rule_list.ensures c.requires.below (λ low d. get_or_read c.rule_list.result.now c.args.position r low c.index-rule_list-position.is no_rule) in
+    let items = c.items-items.result.now in
+    let is : pairs_of items ≡ preorder_of (transducer_rule one c.args.position).right = c.items-items.ensures.items ∙ ap (λ x. preorder_of x.right) at in
+    let flat : IsFlatOver (pairs_of items) c.args.label c.args.rank = subst (λ xs. IsFlatOver xs c.args.label c.args.rank) (sym is) c.requires.flat in
+    let children : HasChildren (pairs_of items) = subst HasChildren (sym c.items-items.ensures.items) (IsOneTree-preorder_of r.right).nested in
+    let ps = c.find-reader-items.result.now in
+    let i = c.loop-reader.reader-index in
+    let are : ps ≡ readers_with (c.second.result, c.args.label, c.args.rank) two = c.find-reader-items.ensures ∙ c.args.self.now.indexed (c.second.result, c.args.label, c.args.rank) in
+    let reads = is_reader two c.second.result c.args.label c.args.rank (length two) (get_or ps i 0) (omega arith) (subst (λ xs. Has xs (get_or ps i 0)) are (has_there i ps 0 c.loop-reader-test.true)) in
+    (c.second.result, c.args.label, c.args.rank, flat_long items c.args.label c.args.rank children flat, reads.1)
 
 pub loop-reader-preserved : goal.loop-reader-preserved
 loop-reader-preserved g c =

@@ -9,7 +9,19 @@ use Rattle.tib_compose.specs.FlatSides.{KeptOverruns, ListsKept}
 use Rattle.tib_compose.specs.CompositionListing.{IsListing}
 use Rattle.tib_compose.specs.Walk.{result_edges}
 use Rattle.tib_compose.proofs.FlatEdges.{reader_kept, there}
+use Rattle.tib_compose.proofs.Walking.{known_from}
 use Rattle.tib_compose.proofs.composite.Composite.list_reader.Goals as goal
+
+pub put_right-requires-clause-known : goal.put_right-requires-clause-known
+put_right-requires-clause-known g c =
+    let two = c.args.self.now.second.now.rules in
+    let r = c.index-rule_list-position.result in
+    let at : r ≡ transducer_rule two c.args.position = there two c.rule_list.result.now c.args.position r c.rule_list.ensures c.requires.below (λ low d. get_or_read c.rule_list.result.now c.args.position r low c.index-rule_list-position.is no_rule) in
+    let reads = c.requires.reads in (
+      reads.2,
+      reads.3,
+      known_from two c.is_sound.ensures.shaped reads.0 reads.1 reads.2 c.args.position c.requires.below reads.4 c.items.result.now (c.items.ensures.items ∙ ap (λ r. preorder_of r.right) at),
+    )
 
 pub returns-in-Ok-list_kept-clause-listed : goal.returns-in-Ok-list_kept-clause-listed
 returns-in-Ok-list_kept-clause-listed g c = λ ready p f n flat low reads order key es lists.

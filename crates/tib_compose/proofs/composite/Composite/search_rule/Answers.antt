@@ -1,4 +1,4 @@
-use Rattle.std.proofs.Common.{◌≡◌, ◌++◌, ◌<◌, Err, ℕ, List, Bool, sym, ap, ◌∙◌, subst}
+use Rattle.std.proofs.Common.{◌≡◌, ◌++◌, ◌<◌, Err, ℕ, List, Bool, length, sym, ap, ◌∙◌, subst}
 use Rattle.std.proofs.lemmas.List.{get_or_read}
 use Rattle.std.specs.declared.result.Result.{Result}
 use Rattle.tib_expand.specs.declared.place.ExpandError.{ExpandError}
@@ -10,7 +10,7 @@ use Rattle.tib_key_edges.specs.Composition.{edge_parts}
 use Rattle.tib_compose.specs.KeyEdges.{rule_edges, IsSourceOf}
 use Rattle.tib_compose.specs.CompositionListing.{IsListing}
 use Rattle.tib_compose.specs.Walk.{AreReady, StepComes, IsOnBranch}
-use Rattle.tib_compose.specs.Searches.{Begins}
+use Rattle.tib_compose.specs.Searches.{AreTurnsBelow, Begins}
 use Rattle.tib_compose.specs.declared.listing.CompositionListing.{CompositionListing}
 use Rattle.tib_compose.specs.declared.search.Search.{Search}
 use Rattle.tib_compose.specs.declared.source.Source.{Source}
@@ -32,6 +32,9 @@ begins_there product one two key n k r source search before ready at same is beg
 same_fault : (f : ExpandError) → ◌≡◌ {A = Result (Unit {0}) ExpandError} (Err f) (Err ExpandError.More) → ◌≡◌ {A = Result Bool ExpandError} (Err f) (Err ExpandError.More)
 same_fault f e = let is : f ≡ ExpandError.More = cc in ap Err is
 
+pub go_on-requires-clause-turns : goal.go_on-requires-clause-turns
+go_on-requires-clause-turns g c = subst (AreTurnsBelow (length c.in-Ok.source.items.now)) (sym c.in-Ok-new.ensures.begins.turns) tt
+
 pub loop-init : goal.loop-init
 loop-init g c =
     let one = c.args.self.now.first.now.rules in
@@ -41,6 +44,7 @@ loop-init g c =
     record {
       within = c.in-Ok-go_on.ensures.within;
       budget = c.in-Ok-go_on.ensures.budget;
+      turns = c.in-Ok-go_on.ensures.turns;
       underway = λ ready order es lists.
           c.in-Ok-go_on.ensures.goes g.S.Semiring.product two ready (c.in-Ok.ensures.known ready) order c.args.key (es ++ rule_edges g.S.Semiring.product one two c.args.key c.args.position)
           (begins_there g.S.Semiring.product one two c.args.key c.args.position c.second-3.result r c.in-Ok.source c.in-Ok-new.search c.args.listing.now ready at c.second-3.ensures c.in-Ok.ensures c.in-Ok-new.ensures.begins order es lists);
@@ -54,6 +58,7 @@ loop-preserved g c =
     record {
       within = c.in-Ok-true.ensures.within;
       budget = c.in-Ok-true.ensures.budget ∙ c.loop.invariant.budget;
+      turns = c.in-Ok-true.ensures.turns;
       underway = λ ready order es lists.
           let all = es ++ rule_edges g.S.Semiring.product one two c.args.key c.args.position in
           subst (StepComes g.S.Semiring.product two c.in-Ok.source r.left order c.args.key all c.step.new.search c.step.new.listing) c.in-Ok-true.field-0-test

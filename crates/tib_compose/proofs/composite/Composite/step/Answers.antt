@@ -9,7 +9,8 @@ use Rattle.tib_compose.specs.Searches.{tried_more}
 use Rattle.tib_compose.specs.declared.search.ReturnPoint.{ReturnPoint}
 use Rattle.tib_compose.proofs.Left.{beyond}
 use Rattle.tib_compose.proofs.Steps.{turn_ends, turn_alive, turn_dead}
-use Rattle.tib_compose.proofs.Walking.{has_there, is_reader}
+use Rattle.tib_compose.proofs.Turns.{last_below, more_below}
+use Rattle.tib_compose.proofs.Walking.{few_readers, has_there, is_reader}
 use Rattle.tib_compose.proofs.composite.Composite.step.Goals as goal
 
 same_fault : (f : ExpandError) → ◌≡◌ {A = Result Bool ExpandError} (Err f) (Err ExpandError.More) → ◌≡◌ {A = Result (Unit {0}) ExpandError} (Err f) (Err ExpandError.More)
@@ -23,8 +24,8 @@ returns-in_default-get-clause-steps g c = λ ready known order key all h.
     (record { branch = c.args.search.now.branch; turns = c.pop.new.self }) refl refl
     (beyond c.find-readers.result.now (readers_with (t.reading.state, t.reading.label, t.reading.rank) two) t.tried (c.find-readers.ensures ∙ c.args.self.now.indexed (t.reading.state, t.reading.label, t.reading.rank)) c.in_default-get.ensures.lookup.0)
 
-pub read-requires : goal.read-requires
-read-requires g c =
+pub read-requires-clause-below : goal.read-requires-clause-below
+read-requires-clause-below g c =
     let two = c.args.self.now.second.now.rules in
     let t = c.in-Some.turn in
     let rs : List ℕ = readers_with (t.reading.state, t.reading.label, t.reading.rank) two in
@@ -32,9 +33,41 @@ read-requires g c =
     let look = c.in-Some-get.ensures.lookup in
     let low : t.tried < length rs = subst (λ (xs : List ℕ). t.tried < length xs) are look.3.0 in
     let is : get_or rs t.tried 0 ≡ c.in-Some-get.position.now = ap (λ (xs : List ℕ). get_or xs t.tried 0) (sym are) ∙ sym (look.3.1 0) in
-    record {
-      below = (is_reader two t.reading.state t.reading.label t.reading.rank (length two) c.in-Some-get.position.now (omega arith) (subst (Has rs) is (has_there t.tried rs 0 low))).0;
-    }
+    (is_reader two t.reading.state t.reading.label t.reading.rank (length two) c.in-Some-get.position.now (omega arith) (subst (Has rs) is (has_there t.tried rs 0 low))).0
+
+pub read-requires-clause-node : goal.read-requires-clause-node
+read-requires-clause-node g c =
+    let low = last_below (length c.args.source.now.items.now) c.pop.new.self.items c.args.search.now.turns.items c.in-Some.turn c.in-Some.ensures.items c.requires.turns in
+    omega (arith, low.1, c.args.source.now.long)
+
+pub returns-in_default-get-clause-turns : goal.returns-in_default-get-clause-turns
+returns-in_default-get-clause-turns g c =
+    (last_below (length c.args.source.now.items.now) c.pop.new.self.items c.args.search.now.turns.items c.in-Some.turn c.in-Some.ensures.items c.requires.turns).0
+
+pub returns-then-not-alive-clause-turns : goal.returns-then-not-alive-clause-turns
+returns-then-not-alive-clause-turns g c =
+    let n : ℕ = length c.args.source.now.items.now in
+    let t = c.in-Some.turn in
+    let low = last_below n c.pop.new.self.items c.args.search.now.turns.items t c.in-Some.ensures.items c.requires.turns in
+    more_below n c.pop.new.self.items c.again.new.self.turns.items (tried_more t)
+    (c.in-Ok-again.ensures.again.turns ∙ ap (λ (v : Vec ReturnPoint). v.items ++ tried_more t ∷ []) c.back_to.ensures.turns) low.0 low.1
+
+pub go_on-requires-clause-turns : goal.go_on-requires-clause-turns
+go_on-requires-clause-turns g c =
+    let n : ℕ = length c.args.source.now.items.now in
+    let t = c.in-Some.turn in
+    let low = last_below n c.pop.new.self.items c.args.search.now.turns.items t c.in-Some.ensures.items c.requires.turns in
+    more_below n c.pop.new.self.items c.again.new.self.turns.items (tried_more t)
+    (c.in-Ok-again.ensures.again.turns ∙ ap (λ (v : Vec ReturnPoint). v.items ++ tried_more t ∷ []) c.back_to.ensures.turns) low.0 low.1
+
+pub again-requires : goal.again-requires
+again-requires g c =
+    let two = c.args.self.now.second.now.rules in
+    let t = c.in-Some.turn in
+    let rs : List ℕ = readers_with (t.reading.state, t.reading.label, t.reading.rank) two in
+    let are : c.find-readers.result.now ≡ rs = c.find-readers.ensures ∙ c.args.self.now.indexed (t.reading.state, t.reading.label, t.reading.rank) in
+    let low : t.tried < length rs = subst (λ (xs : List ℕ). t.tried < length xs) are c.in-Some-get.ensures.lookup.3.0 in
+    record { few = omega (arith, low, few_readers two t.reading.state t.reading.label t.reading.rank (length two), c.is_sound.ensures.few_rules) }
 
 pub returns-then-not-alive-clause-steps : goal.returns-then-not-alive-clause-steps
 returns-then-not-alive-clause-steps g c = λ ready known order key all h.
