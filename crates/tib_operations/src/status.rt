@@ -28,9 +28,10 @@ pub enum Status {
     TooMany {
         limit: u64,
     },
-    /// A tree has more than 10,000 nodes. In a list of cheapest trees, some state has such a tree
-    /// among its cheapest trees, as many as were asked for. In a comparison of two grammars, the
-    /// least tree that only one of them has is such a tree.
+    /// A tree has more than 10,000 nodes. In a list of cheapest trees, some state that is useful
+    /// in the grammar or in a level of it has such a tree among its cheapest trees, as many as were
+    /// asked for. In a comparison of two grammars, the least tree that only one of them has is such
+    /// a tree.
     TreeTooLarge,
     /// A read of a file failed.
     ReadFault {
