@@ -3,7 +3,7 @@ use Rattle.std.specs.Prelude.{◌≡◌, ℕ, ◌+◌, ◌<◌, ◌≤◌, List,
 use Rattle.std.proofs.Common.{zero, suc, arith, ap, sym, ◌∙◌, get_or, set, inl, inr, le_refl}
 use Rattle.std.proofs.lemmas.List.{drop_more, get_or-set_same, get_or-set_other, get_or-map}
 use Rattle.tib_lex.proofs.Numbers.{same_or_other}
-use Rattle.tib_tree.specs.Trees.{Trees, none, tree, parse, other_trees}
+use Rattle.tib_tree.specs.Trees.{Trees, none, tree, count, count-other, parse, other_trees}
 use Rattle.tib_grammar.specs.Sides.{Symbol, label}
 use Rattle.tib_grammar.specs.Items.{pairs_of, pair_of}
 use Rattle.tib_grammar.specs.declared.Item.{Item}
@@ -46,6 +46,17 @@ module _ (pairs : List (Symbol ℕ (Pair ℕ) × ℕ)) (ends : List ℕ) (from :
       let empty : parse (drop at pairs) ≡ none = ap parse (drop_all pairs at high) in
       let rest : other_trees many (parse (drop from pairs)) ≡ none = sym s.1 ∙ empty in
       (s.0, empty ∙ sym (ap (other_trees 1) rest) ∙ other_more many (parse (drop from pairs)))
+
+-- a place that begins a tree is one of the list
+low_there : {A : Type 0} (xs : List (A × ℕ)) (n : ℕ) → 0 < count (parse (drop n xs)) → n < length xs
+low_there [] zero h = absurd (omega (arith, h))
+low_there [] (suc n) h = absurd (omega (arith, h))
+low_there (x ∷ xs) zero h = omega arith
+low_there (x ∷ xs) (suc n) h = omega (arith, low_there xs n h)
+
+-- so is the place after fewer trees than there are
+pub skipped_low : (pairs : List (Symbol ℕ (Pair ℕ) × ℕ)) (from many to : ℕ) → IsSkipped pairs from many to → many < count (parse (drop from pairs)) → to < length pairs
+skipped_low pairs from many to s h = low_there pairs to (omega (arith, h, count-other many (parse (drop from pairs)), ap count s.1))
 
 -- the end of one more tree is known
 pub end_known :

@@ -60,6 +60,7 @@ module _ {levelled weighted : Bool} {product : ℕ → ℕ → ℕ} (laws : Prod
   read_dear b e = record {
     done = refl;
     tasks = ([], sym (append-nil b.pending.tasks.items));
+    nodes = λ ready known low reads at h. h;
     comes = λ ready known low reads ws h. dear_branch laws two (product t.cost (transducer_rule two m).cost) (pairs_of b.done.items) (pieces_of (preorder_of (transducer_rule two m).right) (kids_there (pairs_of source.items.now) t.reading.node t.reading.rank) ++ ws) (none_cut (product t.cost (transducer_rule two m).cost) e);
   }
 
@@ -73,6 +74,8 @@ module _ {levelled weighted : Bool} {product : ℕ → ℕ → ℕ} (laws : Prod
     read_on e costs done puts right_is bounds v at = record {
       done = done;
       tasks = puts.tasks;
+      nodes = λ ready known low reads at h.
+          puts.nodes two known t.reading.label t.reading.rank at.1 (known_from two ready.shaped t.reading.state t.reading.label t.reading.rank m low reads right right_is) h;
       comes = λ ready known low reads ws h.
           let kids = kids_there (pairs_of source.items.now) t.reading.node t.reading.rank in
           let rest : List PieceOf = pieces_of (pairs_of right) kids ++ ws in

@@ -166,14 +166,17 @@ known_from two shaped p f n m low reads items e =
     item_by_item (Hole x ∷ items) h (suc i) low = item_by_item items h.1 i (omega arith)
 
 -- a label has this many sides below it
-pub kids_count : (items : List (Item (Pair ℕ))) (i f n : ℕ) → HasChildren (pairs_of items) → i < length items → get_or items i (Label 0 0) ≡ Label f n → count (kids_there (pairs_of items) i n) ≡ n
-kids_count items i f n h low e =
+pub kids_are : (items : List (Item (Pair ℕ))) (i f n : ℕ) → HasChildren (pairs_of items) → i < length items → get_or items i (Label 0 0) ≡ Label f n → n ≤ count (parse (drop (i + 1) (pairs_of items)))
+kids_are items i f n h low e =
     let long : i < length (pairs_of items) = omega (arith, low, length-map items pair_of) in
     let at : get_or (pairs_of items) i (label 0, 0) ≡ (label f, n) = get_or-map pair_of items i (Label 0 0) (label 0, 0) low ∙ ap pair_of e in
     let from : HasChildren ((label f, n) ∷ drop (i + 1) (pairs_of items)) =
     subst (λ z. HasChildren (z ∷ drop (i + 1) (pairs_of items))) at (subst HasChildren (drop_more (pairs_of items) i (label 0, 0) long) (HasChildren-drop i (pairs_of items) h))
     in
-    count-first n (parse (drop (i + 1) (pairs_of items))) from.1
+    from.1
+
+pub kids_count : (items : List (Item (Pair ℕ))) (i f n : ℕ) → HasChildren (pairs_of items) → i < length items → get_or items i (Label 0 0) ≡ Label f n → count (kids_there (pairs_of items) i n) ≡ n
+kids_count items i f n h low e = count-first n (parse (drop (i + 1) (pairs_of items))) (kids_are items i f n h low e)
 
 -- turns
 

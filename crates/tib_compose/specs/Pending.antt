@@ -1,7 +1,7 @@
 -- What is left to be put out, and what it costs at least.
 use Rattle.std.specs.Prelude.{◌≡◌, ℕ, ◌-◌, ◌<◌, ◌≤◌, List, [], ◌∷◌, ◌++◌, length, Option, None, Some}
 use Rattle.std.proofs.Common.{get_or}
-use Rattle.tib_lex.specs.Lists.{Has}
+use Rattle.tib_lex.specs.Lists.{Each, Has}
 use Rattle.tib_tree.specs.Trees.{Trees}
 use Rattle.tib_grammar.specs.Sides.{Symbol}
 use Rattle.tib_cost.specs.Semiring.{most}
@@ -52,6 +52,15 @@ module _ (product : ℕ → ℕ → ℕ) (two : List (TransducerRule ℕ)) where
     abbrev pub Holds : Pending → List PieceOf → Type 0
     Holds pending ws = Stands pending.tasks.items pending.next ws
 
+-- the node of a piece is below n
+abbrev pub IsNodeBelow : ℕ → Piece → Type 0
+IsNodeBelow n (Put f rank) = Unit {0}
+IsNodeBelow n (Read i p) = i < n
+
+-- so is that of each task
+abbrev pub AreNodesBelow : ℕ → List PendingPiece → Type 0
+AreNodesBelow n tasks = Each (λ (t : PendingPiece). IsNodeBelow n t.piece) tasks
+
 -- the list is the front of another
 abbrev pub Extends : {A : Type 0} → List A → List A → Type 0
 Extends {A} old new = (more : List A) × (new ≡ old ++ more)
@@ -66,6 +75,7 @@ TakesNext old new (Some piece) =
     × (new.next < old.next)
     × ((product : ℕ → ℕ → ℕ) (two : List (TransducerRule ℕ)) (pairs : List (Symbol ℕ (Pair ℕ) × ℕ)) (ws : List PieceOf) → Holds product two pairs old ws →
     (rest : List PieceOf) × (ws ≡ piece_of pairs piece ∷ rest) × Holds product two pairs new rest)
+    × ((n : ℕ) → AreNodesBelow n old.tasks.items → IsNodeBelow n piece)
 
 -- a piece comes before what was left
 abbrev pub IsPushed : (ℕ → ℕ → ℕ) → Piece → Option ℕ → Pending → Pending → Type 0
@@ -73,3 +83,4 @@ IsPushed product piece bound old new =
     Extends old.tasks.items new.tasks.items
     × ((two : List (TransducerRule ℕ)) (pairs : List (Symbol ℕ (Pair ℕ) × ℕ)) (ws : List PieceOf) → BoundsPiece product two (piece_of pairs piece) bound →
     Holds product two pairs old ws → Holds product two pairs new (piece_of pairs piece ∷ ws))
+    × ((n : ℕ) → AreNodesBelow n old.tasks.items → IsNodeBelow n piece → AreNodesBelow n new.tasks.items)

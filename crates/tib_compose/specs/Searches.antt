@@ -1,5 +1,5 @@
 -- The search through all translations of a right-hand side.
-use Rattle.std.specs.Prelude.{◌≡◌, ℕ, ◌+◌, ◌<◌, ◌≤◌, List, [], ◌∷◌, ◌++◌, length, map, reverse, take, drop, nat_le, if◌then◌else◌}
+use Rattle.std.specs.Prelude.{◌≡◌, ℕ, ◌+◌, ◌<◌, ◌≤◌, List, [], ◌∷◌, ◌++◌, length, map, reverse, take, drop, nat_le, if◌then◌else◌, Some}
 use Rattle.tib_lex.specs.Lists.{Each}
 use Rattle.tib_tree.specs.Trees.{Trees, preorder_of}
 use Rattle.tib_cost.specs.Semiring.{most}
@@ -12,8 +12,9 @@ use Rattle.tib_transducer.specs.declared.Variable.{Variable}
 use Rattle.tib_transducer.specs.declared.TransducerRule.{TransducerRule}
 use Rattle.tib_grammar.specs.Sides.{Side as SideFor}
 use Rattle.tib_key_edges.specs.Pieces.{Piece as PieceOf, read, Result, pieces_of, results}
+use Rattle.tib_compose.specs.Branches.{IsAtLabel}
 use Rattle.tib_compose.specs.CompositionListing.{edge_of, IsListing}
-use Rattle.tib_compose.specs.Pending.{Stands, Holds}
+use Rattle.tib_compose.specs.Pending.{AreNodesBelow, Stands, Holds}
 use Rattle.tib_compose.specs.PieceViews.{kids_there, side_there}
 use Rattle.tib_compose.specs.Readers.{readers_with}
 use Rattle.tib_compose.specs.declared.branch.Reading.{Reading}
@@ -70,6 +71,7 @@ pub record Begins (product : ℕ → ℕ → ℕ) (cost state : ℕ) (search : S
   pub done : search.branch.done.items ≡ []
   pub turns : search.turns.items ≡ []
   pub left : (two : List (TransducerRule ℕ)) (pairs : List (Symbol ℕ (Pair ℕ) × ℕ)) → Holds product two pairs search.branch.pending (read (side_there pairs 0) state ∷ [])
+  pub nodes : (n : ℕ) → 0 < n → AreNodesBelow n search.branch.pending.tasks.items
 
 -- the turn that a branch makes at a label
 abbrev pub turn_at : Reading → Search → ReturnPoint
@@ -82,9 +84,9 @@ turn_at r search = record {
   tried = 0;
 }
 
--- the labels of some turns are at places below n
-abbrev pub AreTurnsBelow : ℕ → List ReturnPoint → Type 0
-AreTurnsBelow n ts = Each (λ (t : ReturnPoint). t.reading.node < n) ts
+-- the labels of some turns are at their nodes
+abbrev pub AreTurnsAt : List (Item (Pair ℕ)) → List ReturnPoint → Type 0
+AreTurnsAt items ts = Each (λ (t : ReturnPoint). IsAtLabel items (Some t.reading)) ts
 
 -- one more turn
 pub record Meets (r : Reading) (old new : Search) : Type 0 where

@@ -1,8 +1,9 @@
 -- The walk through all translations of a right-hand side, each with its edge.
-use Rattle.std.specs.Prelude.{◌≡◌, ℕ, ◌<◌, List, [], ◌∷◌, ◌++◌, length, map, Bool, true, false}
+use Rattle.std.specs.Prelude.{◌≡◌, ℕ, ◌<◌, List, [], ◌∷◌, ◌++◌, length, map, Bool, true, false, Some}
 use Rattle.tib_lex.specs.Lists.{total}
 use Rattle.tib_grammar.specs.Sides.{Side as SideFor}
 use Rattle.tib_grammar.specs.Items.{pairs_of}
+use Rattle.tib_compose.specs.Branches.{IsAtLabel}
 use Rattle.tib_transducer.specs.Rules.{transducer_rule}
 use Rattle.tib_transducer.specs.Range.{AreShaped}
 use Rattle.tib_transducer.specs.declared.Variable.{Variable}
@@ -11,7 +12,7 @@ use Rattle.tib_key_edges.specs.Choices.{reads_label}
 use Rattle.tib_key_edges.specs.Composition.{edge_parts}
 use Rattle.tib_key_edges.specs.Pieces.{Piece as PieceOf, Result, results, GoesByPieces}
 use Rattle.tib_compose.specs.CompositionListing.{edge_of, IsListing}
-use Rattle.tib_compose.specs.Pending.{Extends, Holds}
+use Rattle.tib_compose.specs.Pending.{AreNodesBelow, Extends, Holds}
 use Rattle.tib_compose.specs.PieceViews.{kids_there}
 use Rattle.tib_compose.specs.Searches.{affordable, reader_results, Remains}
 use Rattle.tib_compose.specs.Sources.{IsSource}
@@ -50,6 +51,9 @@ module _ (product : ℕ → ℕ → ℕ) (two : List (TransducerRule ℕ)) (sour
     pub comes :
         AreReady product two → IsSource product two source → m < length two → reads_label t.reading.state t.reading.label t.reading.rank (transducer_rule two m) ≡ true →
         (ws : List PieceOf) → Holds product two (pairs_of source.items.now) old.pending ws → ReadComes t m old new ws alive
+    pub nodes :
+        AreReady product two → IsSource product two source → m < length two → reads_label t.reading.state t.reading.label t.reading.rank (transducer_rule two m) ≡ true →
+        IsAtLabel source.items.now (Some t.reading) → AreNodesBelow (length source.items.now) old.pending.tasks.items → AreNodesBelow (length source.items.now) new.pending.tasks.items
 
   module _ (left : SideFor ℕ Variable) (order : List (ℕ × ℕ)) (key : ℕ × ℕ) (all : List (TransducerRule (ℕ × ℕ))) where
     -- the edges that are listed, and those of what is left to come, are all

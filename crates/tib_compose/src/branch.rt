@@ -1,7 +1,8 @@
 //! Right-hand sides that are translated in part.
 
-ghost use Rattle.std.specs.Prelude.{IfOk};
+ghost use Rattle.std.specs.Prelude.{IfOk, length};
 ghost use Rattle.tib_compose.specs.Branches.{IsTaken, IsAdvanced};
+ghost use Rattle.tib_compose.specs.Pending.{AreNodesBelow, IsNodeBelow};
 
 use crate::pending::{Pending, Piece};
 use std::alloc::AllocError;
@@ -36,13 +37,14 @@ pub struct Branch {
 }
 
 impl Branch {
-    /// Puts out a piece, unless it is a label that is to be read: then this is returned. Err also
-    /// where the piece has a node that is not there.
+    /// Puts out a piece, unless it is a label that is to be read: then this is returned. Err only if
+    /// memory is refused.
     fn take(
         &mut self,
         items: &[Item<Pair<u32>>],
         piece: Piece,
     ) -> Result<Option<Reading>, AllocError>
+        requires node { IsNodeBelow (length items.now) piece }
         ensures taken { IfOk result (λ reading. IsTaken items.now piece self.old self.new reading) }
     {
         match piece {
@@ -64,15 +66,16 @@ impl Branch {
                     rank: *rank,
                     state,
                 })),
-                None => Err(AllocError),
+                None => unreachable!(),
             },
         }
     }
 
     /// Puts out pieces up to the next label that is to be read, and returns this; none where all is
-    /// put out. Err if memory is refused, or a piece has a node that is not there; the pieces
-    /// before it are then put out. Cost: one step for each piece.
+    /// put out. Err only if memory is refused; some pieces are then put out. Cost: one step for each
+    /// piece.
     pub fn advance(&mut self, items: &[Item<Pair<u32>>]) -> Result<Option<Reading>, AllocError>
+        requires nodes { AreNodesBelow (length items.now) self.old.pending.tasks.items }
         ensures advanced { IfOk result (λ reading. IsAdvanced items.now self.old self.new reading) }
     {
         while let Some(piece) = self.pending.pop() {

@@ -1,10 +1,12 @@
 //! The pieces of a rule's right-hand side in place of a node.
 
-ghost use Rattle.std.specs.Prelude.{◌≡◌, ℕ, ◌<◌, ◌^◌, List, length, OnOk};
+ghost use Rattle.std.specs.Prelude.{◌≡◌, ℕ, ◌+◌, ◌<◌, ◌≤◌, ◌^◌, List, length, drop, OnOk};
+ghost use Rattle.tib_tree.specs.Trees.{count, parse};
 ghost use Rattle.tib_grammar.specs.Sides.{Symbol};
 ghost use Rattle.tib_transducer.specs.declared.Pair.{Pair as PairOf};
 ghost use Rattle.tib_compose.specs.Ends.{AreEnds};
-ghost use Rattle.tib_compose.specs.PieceViews.{piece_below, piece_of};
+ghost use Rattle.tib_compose.specs.Pending.{IsNodeBelow};
+ghost use Rattle.tib_compose.specs.PieceViews.{IsKnown, piece_below, piece_of};
 ghost use Rattle.tib_compose.specs.Sources.{PutsPieces};
 
 use crate::ends::skip;
@@ -20,9 +22,12 @@ use tib_transducer::Pair;
 pub(crate) fn piece_for(item: &Item<Pair<u32>>, ends: &[u32], node: u32) -> Piece
     requires node { node < length ends.now }
     requires few { length ends.now < 2 ^ 32 }
-    ensures { (pairs : List (Symbol ℕ (PairOf ℕ) × ℕ)) → length pairs ≡ length ends.now →
+    ensures piece { (pairs : List (Symbol ℕ (PairOf ℕ) × ℕ)) → length pairs ≡ length ends.now →
         AreEnds pairs ends.now 0 →
         piece_of pairs result ≡ piece_below pairs node item.now }
+    ensures node { (pairs : List (Symbol ℕ (PairOf ℕ) × ℕ)) → length pairs ≡ length ends.now →
+        AreEnds pairs ends.now 0 → (rank : ℕ) → IsKnown rank item.now →
+        rank ≤ count (parse (drop (node + 1) pairs)) → IsNodeBelow (length pairs) result }
 {
     match item {
         Item::Label { label, rank } => Piece::Put {

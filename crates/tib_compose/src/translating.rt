@@ -2,7 +2,9 @@
 
 ghost use Rattle.std.specs.Prelude.{◌≡◌, ◌<◌, length, IfOk, OnOk, Err};
 ghost use Rattle.tib_compose.specs.CompositionListing.{IsWithinBudget};
-ghost use Rattle.tib_compose.specs.Searches.{AreTurnsBelow};
+ghost use Rattle.tib_compose.specs.Pending.{AreNodesBelow};
+ghost use Rattle.tib_compose.specs.Searches.{AreTurnsAt};
+ghost use Rattle.tib_compose.specs.Sources.{IsSource};
 ghost use Rattle.tib_compose.specs.Walk.{GoesOn, GoesTooFar, IsRead, Steps, StepsTooFar};
 
 use crate::branch::Branch;
@@ -29,15 +31,18 @@ pub(crate) fn go_on<'a>(
     listing: &mut CompositionListing<'a>,
 ) -> Result<(), ExpandError>
     requires within { IsWithinBudget listing.old }
-    requires turns { AreTurnsBelow (length source.now.items.now) search.old.turns.items }
+    requires turns { AreTurnsAt source.now.items.now search.old.turns.items }
+    requires nodes { AreNodesBelow (length source.now.items.now)
+        search.old.branch.pending.tasks.items }
     ensures goes { OnOk result (GoesOn source.now left.now search.old search.new listing.old
         listing.new) }
     ensures more { result ≡ Err ExpandError.More → GoesTooFar source.now left.now search.old
         listing.old }
     ensures within { OnOk result (IsWithinBudget listing.new) }
     ensures budget { OnOk result (listing.new.budget ≡ listing.old.budget) }
-    ensures turns { OnOk result (AreTurnsBelow (length source.now.items.now)
-        search.new.turns.items) }
+    ensures turns { OnOk result (AreTurnsAt source.now.items.now search.new.turns.items) }
+    ensures nodes { OnOk result (AreNodesBelow (length source.now.items.now)
+        search.new.branch.pending.tasks.items) }
 {
     let Ok(reading) = search.branch.advance(source.items) else {
         return Err(ExpandError::OutOfMemory);
@@ -94,15 +99,19 @@ impl<'a, S: Semiring> Composite<'a, S> {
         listing: &mut CompositionListing<'a>,
     ) -> Result<bool, ExpandError>
         requires within { IsWithinBudget listing.old }
-        requires turns { AreTurnsBelow (length source.now.items.now) search.old.turns.items }
+        requires source { IsSource S.product self.now.second.now.rules source.now }
+        requires turns { AreTurnsAt source.now.items.now search.old.turns.items }
+        requires nodes { AreNodesBelow (length source.now.items.now)
+            search.old.branch.pending.tasks.items }
         ensures steps { IfOk result (Steps S.product self.now.second.now.rules source.now left.now
             search.old search.new listing.old listing.new) }
         ensures more { result ≡ Err ExpandError.More → StepsTooFar S.product
             self.now.second.now.rules source.now left.now search.old listing.old }
         ensures within { OnOk result (IsWithinBudget listing.new) }
         ensures budget { OnOk result (listing.new.budget ≡ listing.old.budget) }
-        ensures turns { OnOk result (AreTurnsBelow (length source.now.items.now)
-            search.new.turns.items) }
+        ensures turns { OnOk result (AreTurnsAt source.now.items.now search.new.turns.items) }
+        ensures nodes { OnOk result (AreNodesBelow (length source.now.items.now)
+            search.new.branch.pending.tasks.items) }
     {
         self.second.is_sound();
         let Some(turn) = search.turns.pop() else {

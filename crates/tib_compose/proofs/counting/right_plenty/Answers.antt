@@ -32,7 +32,7 @@ loop-i-preserved g c =
           let many : length pairs ≡ length c.args.source.now.items.now = length-map c.args.source.now.items.now pair_of in
           let long : length pairs ≡ length c.deref.result.now = omega (arith, many, c.args.source.now.long, ap length c.deref.ensures.value) in
           let is : piece_of pairs c.piece_for-piece.result ≡ piece_below pairs c.args.node (get_or c.args.right.now i (Label 0 0)) =
-          c.piece_for-piece.ensures pairs long (subst (λ ends. AreEnds pairs ends 0) (sym c.deref.ensures.value) known.ends)
+          c.piece_for-piece.ensures.piece pairs long (subst (λ ends. AreEnds pairs ends 0) (sym c.deref.ensures.value) known.ends)
           in
           let both = piece_adds g.met.S.Semiring.laws two (piece_of pairs c.piece_for-piece.result) (pieces_of (drop (i + 1) (pairs_of c.args.right.now)) kids) c.in-Some.own c.loop-i.total c.in-Some-product_plenty.next
           (c.in-Some.ensures two ready known) before c.in-Some-product_plenty.ensures

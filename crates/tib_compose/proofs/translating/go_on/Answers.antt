@@ -2,9 +2,10 @@ use Rattle.std.proofs.Common.{◌≡◌, Err, refl, sym, ap, ◌∙◌, subst, S
 use Rattle.tib_compose.specs.Branches.{IsAdvanced}
 use Rattle.tib_compose.specs.CompositionListing.{IsTooMuch, IsAdded}
 use Rattle.tib_compose.specs.Searches.{turn_at}
+use Rattle.tib_compose.specs.declared.branch.Branch.{Branch}
 use Rattle.tib_compose.specs.declared.search.Search.{Search}
 use Rattle.tib_compose.proofs.Steps.{on_to_label, on_to_end, on_too_far}
-use Rattle.tib_compose.proofs.Turns.{more_below}
+use Rattle.tib_compose.proofs.Turns.{more_at, nodes_same}
 use Rattle.tib_compose.proofs.translating.go_on.Goals as goal
 
 pub returns-in-Ok-meet-clause-goes : goal.returns-in-Ok-meet-clause-goes
@@ -16,7 +17,16 @@ pub returns-in-Ok-meet-clause-turns : goal.returns-in-Ok-meet-clause-turns
 returns-in-Ok-meet-clause-turns c =
     let a = subst (IsAdvanced c.args.source.now.items.now c.args.search.now.branch c.advance.new.self) c.in-Some.is c.in-Ok.ensures.advanced in
     let old : Search = record { branch = c.advance.new.self; turns = c.args.search.now.turns } in
-    more_below (length c.args.source.now.items.now) c.args.search.now.turns.items c.meet.new.self.turns.items (turn_at c.in-Some.reading old) c.in-Ok-meet.ensures.meets.turns c.requires.turns a.at.0
+    more_at c.args.source.now.items.now c.args.search.now.turns.items c.meet.new.self.turns.items (turn_at c.in-Some.reading old) c.in-Ok-meet.ensures.meets.turns c.requires.turns a.at
+
+pub returns-in-Ok-meet-clause-nodes : goal.returns-in-Ok-meet-clause-nodes
+returns-in-Ok-meet-clause-nodes c =
+    nodes_same (length c.args.source.now.items.now) c.args.search.now.branch.pending.tasks c.meet.new.self.branch.pending.tasks
+    (ap (λ (b : Branch). b.pending.tasks) c.in-Ok-meet.ensures.meets.branch ∙ c.in-Ok.ensures.advanced.puts.tasks) c.requires.nodes
+
+pub returns-in-Ok-add-clause-nodes : goal.returns-in-Ok-add-clause-nodes
+returns-in-Ok-add-clause-nodes c =
+    nodes_same (length c.args.source.now.items.now) c.args.search.now.branch.pending.tasks c.advance.new.self.pending.tasks c.in-Ok.ensures.advanced.puts.tasks c.requires.nodes
 
 pub returns-in-Ok-add-clause-goes : goal.returns-in-Ok-add-clause-goes
 returns-in-Ok-add-clause-goes c = λ product two ready known order key all h.

@@ -1,9 +1,10 @@
-use Rattle.std.proofs.Common.{◌≡◌, refl, sym, ap, ◌∙◌, subst}
+use Rattle.std.proofs.Common.{◌≡◌, length, refl, sym, ap, ◌∙◌, subst}
 use Rattle.tib_compose.specs.Pending.{TakesNext}
 use Rattle.tib_compose.specs.Branches.{IsTaken}
 use Rattle.tib_compose.specs.declared.pending.Piece.TheVariants.{Put}
 use Rattle.tib_compose.proofs.Left.{puts_nothing}
 use Rattle.tib_compose.proofs.Advance.{step_puts, step_comes, label_met, all_out, with_left}
+use Rattle.tib_compose.proofs.Turns.{nodes_same}
 use Rattle.tib_compose.proofs.branch.Branch.advance.Goals as goal
 
 pub loop-piece-init : goal.loop-piece-init
@@ -11,6 +12,11 @@ loop-piece-init c = record {
   puts = puts_nothing c.args.self.now;
   comes = λ product two goes ws h. (ws, h, refl);
 }
+
+pub take-requires : goal.take-requires
+take-requires c =
+    let next = subst (TakesNext c.loop-piece.self.pending c.pop.new.self) c.in-Some.is c.pop.ensures in
+    record { node = next.3 (length c.args.items.now) (nodes_same (length c.args.items.now) c.args.self.now.pending.tasks c.loop-piece.self.pending.tasks c.loop-piece.invariant.puts.tasks c.requires.nodes) }
 
 pub loop-piece-preserved : goal.loop-piece-preserved
 loop-piece-preserved c =

@@ -1,8 +1,10 @@
-use Rattle.std.proofs.Common.{refl, append-nil, ap, sym, ◌∙◌, ◌++◌, ◌∷◌, []}
+use Rattle.std.proofs.Common.{◌<◌, length, arith, refl, append-nil, ap, sym, ◌∙◌, subst, ◌++◌, ◌∷◌, []}
 use Rattle.tib_grammar.specs.declared.Item.TheVariants.{Label, Hole}
 use Rattle.tib_grammar.specs.Items.{pairs_of}
 use Rattle.tib_key_edges.specs.Pieces.{results}
 use Rattle.tib_compose.specs.PieceViews.{piece_of, kids_there}
+use Rattle.tib_compose.specs.Pending.{IsNodeBelow}
+use Rattle.tib_compose.proofs.Left.{beyond}
 use Rattle.tib_compose.proofs.Taking.{pair_taken, label_taken, put_taken}
 use Rattle.tib_compose.proofs.branch.Branch.take.Goals as goal
 
@@ -50,3 +52,8 @@ returns-in-Some-Label c =
             (kids_there (pairs_of c.args.items.now) c.in-Read.node c.in-Some-Label.rank) refl;
       };
     }
+
+pub unreachable-requires : goal.unreachable-requires
+unreachable-requires c =
+    let low : c.in-Read.node < length c.args.items.now = subst (IsNodeBelow (length c.args.items.now)) c.in-Read.is c.requires.node in
+    absurd (omega (arith, low, beyond c.args.items.now c.args.items.now c.in-Read.node refl c.in-None.ensures.lookup.0))

@@ -1,5 +1,6 @@
-use Rattle.std.proofs.Common.{◌≡◌, ◌++◌, ◌<◌, Err, ℕ, List, Bool, length, sym, ap, ◌∙◌, subst}
-use Rattle.std.proofs.lemmas.List.{get_or_read}
+use Rattle.std.proofs.Common.{◌≡◌, ◌++◌, ◌<◌, Err, ℕ, List, Bool, arith, length, sym, ap, ◌∙◌, subst}
+use Rattle.std.proofs.lemmas.List.{get_or_read, length-map}
+use Rattle.tib_grammar.specs.Items.{pair_of}
 use Rattle.std.specs.declared.result.Result.{Result}
 use Rattle.tib_expand.specs.declared.place.ExpandError.{ExpandError}
 use Rattle.tib_lex.specs.Lists.{total}
@@ -10,7 +11,7 @@ use Rattle.tib_key_edges.specs.Composition.{edge_parts}
 use Rattle.tib_compose.specs.KeyEdges.{rule_edges, IsSourceOf}
 use Rattle.tib_compose.specs.CompositionListing.{IsListing}
 use Rattle.tib_compose.specs.Walk.{AreReady, StepComes, IsOnBranch}
-use Rattle.tib_compose.specs.Searches.{AreTurnsBelow, Begins}
+use Rattle.tib_compose.specs.Searches.{AreTurnsAt, Begins}
 use Rattle.tib_compose.specs.declared.listing.CompositionListing.{CompositionListing}
 use Rattle.tib_compose.specs.declared.search.Search.{Search}
 use Rattle.tib_compose.specs.declared.source.Source.{Source}
@@ -33,7 +34,16 @@ same_fault : (f : ExpandError) → ◌≡◌ {A = Result (Unit {0}) ExpandError}
 same_fault f e = let is : f ≡ ExpandError.More = cc in ap Err is
 
 pub go_on-requires-clause-turns : goal.go_on-requires-clause-turns
-go_on-requires-clause-turns g c = subst (AreTurnsBelow (length c.in-Ok.source.items.now)) (sym c.in-Ok-new.ensures.begins.turns) tt
+go_on-requires-clause-turns g c = subst (AreTurnsAt c.in-Ok.source.items.now) (sym c.in-Ok-new.ensures.begins.turns) tt
+
+pub go_on-requires-clause-nodes : goal.go_on-requires-clause-nodes
+go_on-requires-clause-nodes g c =
+    c.in-Ok-new.ensures.begins.nodes (length c.in-Ok.source.items.now) (omega (arith, ap length c.in-Ok.ensures.items, length-map c.in-Ok.source.items.now pair_of))
+
+pub step-requires-clause-source : goal.step-requires-clause-source
+step-requires-clause-source g c =
+    let two = c.args.self.now.second.now.rules in
+    c.in-Ok.ensures.known (are_ready g.met.S.Semiring.laws two c.is_sound.ensures.shaped c.is_sound.ensures.leaves)
 
 pub loop-init : goal.loop-init
 loop-init g c =
@@ -45,6 +55,7 @@ loop-init g c =
       within = c.in-Ok-go_on.ensures.within;
       budget = c.in-Ok-go_on.ensures.budget;
       turns = c.in-Ok-go_on.ensures.turns;
+      nodes = c.in-Ok-go_on.ensures.nodes;
       underway = λ ready order es lists.
           c.in-Ok-go_on.ensures.goes g.S.Semiring.product two ready (c.in-Ok.ensures.known ready) order c.args.key (es ++ rule_edges g.S.Semiring.product one two c.args.key c.args.position)
           (begins_there g.S.Semiring.product one two c.args.key c.args.position c.second-3.result r c.in-Ok.source c.in-Ok-new.search c.args.listing.now ready at c.second-3.ensures c.in-Ok.ensures c.in-Ok-new.ensures.begins order es lists);
@@ -59,6 +70,7 @@ loop-preserved g c =
       within = c.in-Ok-true.ensures.within;
       budget = c.in-Ok-true.ensures.budget ∙ c.loop.invariant.budget;
       turns = c.in-Ok-true.ensures.turns;
+      nodes = c.in-Ok-true.ensures.nodes;
       underway = λ ready order es lists.
           let all = es ++ rule_edges g.S.Semiring.product one two c.args.key c.args.position in
           subst (StepComes g.S.Semiring.product two c.in-Ok.source r.left order c.args.key all c.step.new.search c.step.new.listing) c.in-Ok-true.field-0-test

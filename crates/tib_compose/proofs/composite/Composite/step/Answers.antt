@@ -9,7 +9,8 @@ use Rattle.tib_compose.specs.Searches.{tried_more}
 use Rattle.tib_compose.specs.declared.search.ReturnPoint.{ReturnPoint}
 use Rattle.tib_compose.proofs.Left.{beyond}
 use Rattle.tib_compose.proofs.Steps.{turn_ends, turn_alive, turn_dead}
-use Rattle.tib_compose.proofs.Turns.{last_below, more_below}
+use Rattle.tib_compose.proofs.FlatEdges.{are_ready}
+use Rattle.tib_compose.proofs.Turns.{last_at, more_at, nodes_read}
 use Rattle.tib_compose.proofs.Walking.{few_readers, has_there, is_reader}
 use Rattle.tib_compose.proofs.composite.Composite.step.Goals as goal
 
@@ -37,28 +38,58 @@ read-requires-clause-below g c =
 
 pub read-requires-clause-node : goal.read-requires-clause-node
 read-requires-clause-node g c =
-    let low = last_below (length c.args.source.now.items.now) c.pop.new.self.items c.args.search.now.turns.items c.in-Some.turn c.in-Some.ensures.items c.requires.turns in
-    omega (arith, low.1, c.args.source.now.long)
+    let at = last_at c.args.source.now.items.now c.pop.new.self.items c.args.search.now.turns.items c.in-Some.turn c.in-Some.ensures.items c.requires.turns in
+    omega (arith, at.1.0, c.args.source.now.long)
 
 pub returns-in_default-get-clause-turns : goal.returns-in_default-get-clause-turns
 returns-in_default-get-clause-turns g c =
-    (last_below (length c.args.source.now.items.now) c.pop.new.self.items c.args.search.now.turns.items c.in-Some.turn c.in-Some.ensures.items c.requires.turns).0
+    (last_at c.args.source.now.items.now c.pop.new.self.items c.args.search.now.turns.items c.in-Some.turn c.in-Some.ensures.items c.requires.turns).0
 
 pub returns-then-not-alive-clause-turns : goal.returns-then-not-alive-clause-turns
 returns-then-not-alive-clause-turns g c =
-    let n : ℕ = length c.args.source.now.items.now in
+    let items = c.args.source.now.items.now in
     let t = c.in-Some.turn in
-    let low = last_below n c.pop.new.self.items c.args.search.now.turns.items t c.in-Some.ensures.items c.requires.turns in
-    more_below n c.pop.new.self.items c.again.new.self.turns.items (tried_more t)
-    (c.in-Ok-again.ensures.again.turns ∙ ap (λ (v : Vec ReturnPoint). v.items ++ tried_more t ∷ []) c.back_to.ensures.turns) low.0 low.1
+    let at = last_at items c.pop.new.self.items c.args.search.now.turns.items t c.in-Some.ensures.items c.requires.turns in
+    more_at items c.pop.new.self.items c.again.new.self.turns.items (tried_more t)
+    (c.in-Ok-again.ensures.again.turns ∙ ap (λ (v : Vec ReturnPoint). v.items ++ tried_more t ∷ []) c.back_to.ensures.turns) at.0 at.1
 
 pub go_on-requires-clause-turns : goal.go_on-requires-clause-turns
 go_on-requires-clause-turns g c =
-    let n : ℕ = length c.args.source.now.items.now in
+    let items = c.args.source.now.items.now in
     let t = c.in-Some.turn in
-    let low = last_below n c.pop.new.self.items c.args.search.now.turns.items t c.in-Some.ensures.items c.requires.turns in
-    more_below n c.pop.new.self.items c.again.new.self.turns.items (tried_more t)
-    (c.in-Ok-again.ensures.again.turns ∙ ap (λ (v : Vec ReturnPoint). v.items ++ tried_more t ∷ []) c.back_to.ensures.turns) low.0 low.1
+    let at = last_at items c.pop.new.self.items c.args.search.now.turns.items t c.in-Some.ensures.items c.requires.turns in
+    more_at items c.pop.new.self.items c.again.new.self.turns.items (tried_more t)
+    (c.in-Ok-again.ensures.again.turns ∙ ap (λ (v : Vec ReturnPoint). v.items ++ tried_more t ∷ []) c.back_to.ensures.turns) at.0 at.1
+
+pub returns-then-not-alive-clause-nodes : goal.returns-then-not-alive-clause-nodes
+returns-then-not-alive-clause-nodes g c =
+    let two = c.args.self.now.second.now.rules in
+    let t = c.in-Some.turn in
+    let rs : List ℕ = readers_with (t.reading.state, t.reading.label, t.reading.rank) two in
+    let are : c.find-readers.result.now ≡ rs = c.find-readers.ensures ∙ c.args.self.now.indexed (t.reading.state, t.reading.label, t.reading.rank) in
+    let look = c.in-Some-get.ensures.lookup in
+    let low : t.tried < length rs = subst (λ (xs : List ℕ). t.tried < length xs) are look.3.0 in
+    let is : get_or rs t.tried 0 ≡ c.in-Some-get.position.now = ap (λ (xs : List ℕ). get_or xs t.tried 0) (sym are) ∙ sym (look.3.1 0) in
+    let at = last_at c.args.source.now.items.now c.pop.new.self.items c.args.search.now.turns.items t c.in-Some.ensures.items c.requires.turns in
+    nodes_read g.S.Semiring.product two c.args.source.now t c.in-Some-get.position.now t.tasks c.args.search.now.branch.pending.tasks.items c.back_to.new.self.branch c.read.new.branch c.again.new.self.branch _
+    (are_ready g.met.S.Semiring.laws two c.is_sound.ensures.shaped c.is_sound.ensures.leaves) c.requires.source
+    (is_reader two t.reading.state t.reading.label t.reading.rank (length two) c.in-Some-get.position.now (omega arith) (subst (Has rs) is (has_there t.tried rs 0 low))) at.1
+    c.back_to.ensures.tasks c.requires.nodes c.in-Ok.ensures.read c.in-Ok-again.ensures.again.branch
+
+pub go_on-requires-clause-nodes : goal.go_on-requires-clause-nodes
+go_on-requires-clause-nodes g c =
+    let two = c.args.self.now.second.now.rules in
+    let t = c.in-Some.turn in
+    let rs : List ℕ = readers_with (t.reading.state, t.reading.label, t.reading.rank) two in
+    let are : c.find-readers.result.now ≡ rs = c.find-readers.ensures ∙ c.args.self.now.indexed (t.reading.state, t.reading.label, t.reading.rank) in
+    let look = c.in-Some-get.ensures.lookup in
+    let low : t.tried < length rs = subst (λ (xs : List ℕ). t.tried < length xs) are look.3.0 in
+    let is : get_or rs t.tried 0 ≡ c.in-Some-get.position.now = ap (λ (xs : List ℕ). get_or xs t.tried 0) (sym are) ∙ sym (look.3.1 0) in
+    let at = last_at c.args.source.now.items.now c.pop.new.self.items c.args.search.now.turns.items t c.in-Some.ensures.items c.requires.turns in
+    nodes_read g.S.Semiring.product two c.args.source.now t c.in-Some-get.position.now t.tasks c.args.search.now.branch.pending.tasks.items c.back_to.new.self.branch c.read.new.branch c.again.new.self.branch _
+    (are_ready g.met.S.Semiring.laws two c.is_sound.ensures.shaped c.is_sound.ensures.leaves) c.requires.source
+    (is_reader two t.reading.state t.reading.label t.reading.rank (length two) c.in-Some-get.position.now (omega arith) (subst (Has rs) is (has_there t.tried rs 0 low))) at.1
+    c.back_to.ensures.tasks c.requires.nodes c.in-Ok.ensures.read c.in-Ok-again.ensures.again.branch
 
 pub again-requires : goal.again-requires
 again-requires g c =

@@ -1,6 +1,8 @@
-use Rattle.std.proofs.Common.{◌≡◌, ◌<◌, ◌-◌, ◌≤◌, length, arith, refl, sym, ap, ◌∙◌, subst}
+use Rattle.std.proofs.Common.{◌≡◌, ◌<◌, ◌-◌, ◌≤◌, List, length, arith, refl, sym, ap, ◌∙◌, subst}
 use Rattle.std.proofs.lemmas.Bool.Decides.{nat_tests}
-use Rattle.tib_compose.specs.Pending.{task_at, Stands}
+use Rattle.tib_lex.proofs.Members.{each_at}
+use Rattle.tib_compose.specs.Pending.{IsNodeBelow, task_at, Stands}
+use Rattle.tib_compose.specs.declared.pending.PendingPiece.{PendingPiece}
 use Rattle.tib_compose.proofs.Left.{none_left, one_left, next_left, beyond}
 use Rattle.tib_compose.proofs.pending.Pending.pop.Goals.{then-rest-last, else-rest-last}
 use Rattle.tib_compose.proofs.pending.Pending.pop.Goals as goal
@@ -33,4 +35,7 @@ returns c =
           ]
           in
           (n.0, n.1, subst (λ k. Stands product two pairs c.args.self.now.tasks.items k n.0) same n.4),
+      λ n below.
+          let low : c.args.self.now.next - 1 < length c.args.self.now.tasks.items = subst (λ (ts : List PendingPiece). c.args.self.now.next - 1 < length ts) c.deref.ensures.value c.in-Some.ensures.lookup.3.0 in
+          subst (λ (t : PendingPiece). IsNodeBelow n t.piece) (sym at) (each_at (λ (t : PendingPiece). IsNodeBelow n t.piece) c.args.self.now.tasks.items (c.args.self.now.next - 1) _ below low),
     )
