@@ -1,6 +1,7 @@
 pub mod Mirrored
 pub mod Raising
 pub mod Sides
+pub mod Together
 pub mod Bounds
 pub mod Reading
 pub mod Reaching

@@ -1,22 +1,39 @@
 -- Rules whose states are raised by a number.
-use Rattle.std.specs.Prelude.{◌≡◌, ℕ, ◌+◌, ◌<◌, List, [], ◌∷◌, ◌++◌, length, map, refl}
-use Rattle.std.proofs.Common.{ap, sym, ◌∙◌, subst, inl, inr}
+use Rattle.std.specs.Prelude.{◌≡◌, ℕ, ◌+◌, ◌<◌, ◌^◌, List, [], ◌∷◌, length, map, refl}
+use Rattle.std.proofs.Common.{ap, sym, ◌∙◌, subst, get_or}
+use Rattle.std.proofs.lemmas.List.{get_or_read}
 use Rattle.tib_lex.specs.Lists.{Has, Along}
+use Rattle.tib_lex.proofs.Lists.{mapped_has}
 use Rattle.tib_lex.proofs.Members.{has_at}
-use Rattle.tib_grammar.specs.Sides.{Symbol, label, hole, holes, leaves, over}
+use Rattle.tib_grammar.specs.Items.{state_in}
+use Rattle.tib_grammar.specs.declared.Item.{Item}
+use Rattle.tib_grammar.specs.Sides.{Symbol, label, hole}
 use Rattle.tib_grammar.specs.Run.{rule_at, no_rule}
 use Rattle.tib_grammar.specs.Forms.{IsLabel, IsNormalSide, AreNormal}
 use Rattle.tib_grammar.specs.Range.{AllBelow}
 use Rattle.tib_grammar.specs.declared.Rule.{Rule}
 use Rattle.tib_grammar.proofs.Sides.{holes-leaves, AreHoles-leaves}
 use Rattle.tib_ranked_trees.specs.Levels.{root_of, states_of}
-use Rattle.tib_compare.specs.Beside.{moved}
+use Rattle.tib_compare.specs.Beside.{moved, CanRaise, CanRaiseAll}
 use Rattle.tib_compare.proofs.Mirrored.{IsMirrored}
 
 -- the label at the root of a side in normal form
 pub root_back : (s : Symbol ℕ ℕ) → IsLabel s → label (root_of s) ≡ s
 root_back (label f) h = refl
 root_back (hole p) h = absurd h
+
+-- the state of an item can be raised where each of the states can
+pub item_raised :
+    (by : ℕ) (items : List (Item ℕ)) (i : ℕ) (d : Item ℕ) (r : ℕ) → r ≡ state_in (get_or items i d) → i < length items → (qs : List ℕ) → map state_in items ≡ qs →
+    ((q : ℕ) → Has qs q → by + q < 2 ^ 32) → by + r < 2 ^ 32
+item_raised by items i d r e lt qs s h =
+    let item : Item ℕ = get_or items i d in
+    let stands : Has qs (state_in item) = subst (λ (ps : List ℕ). Has ps (state_in item)) s (mapped_has state_in items item (has_at items i d lt)) in
+    subst (λ q. by + q < 2 ^ 32) (sym e) (h (state_in item) stands)
+
+-- a rule can be raised where all can
+pub rule_raised : (by : ℕ) (rules : List (Rule ℕ)) (i : ℕ) (r : Rule ℕ) → i < length rules → r ≡ get_or rules i r → CanRaiseAll by rules → CanRaise by r
+rule_raised by rules i r lt e h = subst (CanRaise by) (sym (get_or_read rules i r lt e no_rule)) (h i lt)
 
 -- q is p raised by a number
 abbrev pub IsRaised : ℕ → ℕ → ℕ → Type 0

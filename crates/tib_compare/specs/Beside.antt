@@ -1,5 +1,6 @@
 -- Two grammars side by side.
-use Rattle.std.specs.Prelude.{◌≡◌, ◌↔◌, ℕ, ◌+◌, ◌<◌, max, List, ◌++◌, length, map, Option}
+use Rattle.std.specs.Prelude.{◌↔◌, ℕ, ◌+◌, ◌<◌, ◌^◌, max, List, ◌++◌, length, map, Option}
+use Rattle.tib_lex.specs.Lists.{Has}
 use Rattle.tib_tree.specs.Trees.{Tree}
 use Rattle.tib_grammar.specs.Sides.{over}
 use Rattle.tib_grammar.specs.Series.{IsSeriesAt}
@@ -7,12 +8,21 @@ use Rattle.tib_grammar.specs.Forms.{AreNormal}
 use Rattle.tib_grammar.specs.Range.{AreInRange}
 use Rattle.tib_grammar.specs.declared.Rule.{Rule}
 use Rattle.tib_ranked_trees.specs.Levels.{root_of, states_of}
-use Rattle.tib_grammar.specs.Run.{AreFree}
+use Rattle.tib_grammar.specs.Run.{rule_at, AreFree}
 
 -- a rule's label over its states, each raised by a number, from a left state and at a cost
 abbrev pub moved : ℕ → ℕ → ℕ → Rule ℕ → Rule ℕ
 moved left by cost r =
     record { left = left; right = over (root_of r.right.label) (map (λ q. by + q) (states_of r)); cost = cost }
+
+-- a number can be added to each state of a rule
+pub record CanRaise (by : ℕ) (r : Rule ℕ) : Type 0 where
+  pub left : by + r.left < 2 ^ 32
+  pub states : (q : ℕ) → Has (states_of r) q → by + q < 2 ^ 32
+
+-- and to each state of some rules
+abbrev pub CanRaiseAll : ℕ → List (Rule ℕ) → Type 0
+CanRaiseAll by rules = (n : ℕ) → n < length rules → CanRaise by (rule_at rules n)
 
 -- the rules with all their states raised by a number, at no cost
 abbrev pub raised : ℕ → List (Rule ℕ) → List (Rule ℕ)

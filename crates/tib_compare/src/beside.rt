@@ -1,9 +1,11 @@
 // Two grammars side by side.
 ghost use Rattle.std.specs.Prelude.{◌≡◌, ◌+◌, ◌++◌, ◌^◌, ◌<◌, length, OnOk, IfOk};
 ghost use Rattle.tib_grammar.specs.Forms.{AreNormal};
-ghost use Rattle.tib_compare.specs.Beside.{beside, raised};
+ghost use Rattle.tib_grammar.specs.Range.{AreInRange};
+ghost use Rattle.tib_normal.specs.Rules.{IsNormal};
+ghost use Rattle.tib_compare.specs.Beside.{beside, raised, CanRaiseAll};
 
-use crate::moving::{moved_rule, raised_state};
+use crate::moving::{moved_rule, raised_left};
 use std::alloc::{AllocError, Global};
 use tib_canon::numbered_names;
 use tib_cost::{Boolean, Semiring};
@@ -17,12 +19,13 @@ fn put_raised(
     by: u32,
     all: &mut Vec<Rule<u32>>,
 ) -> Result<(), AllocError>
-    requires { AreNormal rules.now }
+    requires normal { AreNormal rules.now }
+    requires raised { CanRaiseAll by rules.now }
     ensures { OnOk result (all.new.items ≡ all.old.items ++ raised by rules.now) }
 {
     let mut states = Vec::new(alloc);
     for rule in rules {
-        let left = raised_state(by, rule.left)?;
+        let left = raised_left(rule, by);
         all.push(moved_rule(alloc, rule, left, by, Boolean::one(), &mut states)?)?;
     }
     Ok(())
@@ -37,6 +40,8 @@ fn rules_beside(
 ) -> Result<Vec<Rule<u32>>, AllocError>
     requires left { AreNormal left.now }
     requires right { AreNormal right.now }
+    requires left_raised { CanRaiseAll 0 left.now }
+    requires right_raised { CanRaiseAll first right.now }
     ensures { IfOk result (λ v. v.items ≡ beside first left.now right.now) }
 {
     let mut all = Vec::with_capacity(alloc, left.len())?;
@@ -45,12 +50,16 @@ fn rules_beside(
     Ok(all)
 }
 
-// These rules in normal form, over this number of states. Err also where they are not in it.
+// These rules in normal form, over this number of states. Err also if there are too many rules to
+// be numbered.
 fn normal_over(
     alloc: Global,
     states: u32,
     rules: Vec<Rule<u32>>,
 ) -> Result<Normal<Boolean>, AllocError>
+    requires start { 0 < states }
+    requires range { AreInRange states rules.items }
+    requires normal { IsNormal rules.items }
     ensures names { IfOk result (λ n. length n.names ≡ states) }
     ensures rules { IfOk result (λ n. n.rules ≡ rules.items) }
 {
@@ -59,10 +68,21 @@ fn normal_over(
     }
     let names = numbered_names(alloc, states)?;
     let Some(grammar) = Grammar::new(names, rules) else {
-        return Err(AllocError);
+        unreachable!();
     };
     match Normal::new(alloc, grammar)? {
         Some(normal) => Ok(normal),
+        None => unreachable!(),
+    }
+}
+
+// How many states both have together. Err if they are too many to be numbered.
+fn states_of_both(first: u32, second: u32) -> Result<u32, AllocError>
+    ensures sum { IfOk result (λ n. n ≡ first + second) }
+    ensures few { IfOk result (λ n. n < 2 ^ 32) }
+{
+    match first.checked_add(second) {
+        Some(sum) => Ok(sum),
         None => Err(AllocError),
     }
 }
@@ -83,7 +103,10 @@ pub fn side_by_side(
 {
     let one = left.grammar();
     let two = right.grammar();
+    one.is_sound();
+    two.is_sound();
     let first = one.states();
+    let states = states_of_both(first, two.states())?;
     let rules = rules_beside(alloc, one.rule_list(), two.rule_list(), first)?;
-    normal_over(alloc, raised_state(first, two.states())?, rules)
+    normal_over(alloc, states, rules)
 }

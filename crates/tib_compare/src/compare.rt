@@ -63,9 +63,9 @@ fn answer(
 /// The comparison that the vectors of both side by side give, as a determinization finds them:
 /// `Same` exactly where every tree has a cost in both or in neither; else the least tree, in the
 /// order of trees, that has a cost in exactly one, and which one. `TreeTooLarge` exactly where that
-/// tree has more than 10,000 nodes; `OutOfMemory` if memory is refused. Worst case: O(r log r)
-/// comparisons of trees for r rules over vectors, and `weigh` of one tree. The order of first trees
-/// is from Knuth, 1977.
+/// tree has more than 10,000 nodes; `OutOfMemory` if memory is refused or 32-bit numbers run out.
+/// Worst case: O(r log r) comparisons of trees for r rules over vectors, and `weigh` of one tree.
+/// The order of first trees is from Knuth, 1977.
 pub fn compare_vectors(
     alloc: Global,
     left: &Normal<Boolean>,

@@ -2,20 +2,18 @@
 ghost use Rattle.std.specs.Prelude.{◌≡◌, ◌+◌, ◌<◌, ◌^◌, length, map, IfOk};
 ghost use Rattle.tib_grammar.specs.Forms.{IsNormalSide};
 ghost use Rattle.tib_grammar.specs.Sides.{holes};
-ghost use Rattle.tib_compare.specs.Beside.{moved};
+ghost use Rattle.tib_compare.specs.Beside.{moved, CanRaise};
 
 use std::alloc::{AllocError, Global};
 use tib_cost::Cost;
 use tib_grammar::{Rule, Side};
 
-// The sum of two numbers of states. Err where it is no number of a state.
-pub(crate) fn raised_state(by: u32, state: u32) -> Result<u32, AllocError>
-    ensures { IfOk result (λ q. q ≡ by + state) }
+// The left state of a rule, raised by a number.
+pub(crate) fn raised_left(rule: &Rule<u32>, by: u32) -> u32
+    requires { CanRaise by rule.now }
+    ensures { result ≡ by + rule.now.left }
 {
-    match by.checked_add(state) {
-        Some(sum) => Ok(sum),
-        None => Err(AllocError),
-    }
+    by + rule.left
 }
 
 // How many states are below a rule.
@@ -30,14 +28,15 @@ fn count_of(rule: &Rule<u32>) -> usize
 
 // The states below a rule, in order, each raised by a number.
 fn read_states(rule: &Rule<u32>, by: u32, states: &mut Vec<u32>) -> Result<(), AllocError>
-    requires { IsNormalSide rule.now.right }
+    requires normal { IsNormalSide rule.now.right }
+    requires raised { CanRaise by rule.now }
     ensures { IfOk result (λ _. states.new.items
         ≡ map (λ q. by + q) (holes rule.now.right.kids)) }
 {
     states.clear();
     let below = rule.states_below();
     for item in below {
-        states.push(raised_state(by, item.state())?)?;
+        states.push(by + item.state())?;
     }
     Ok(())
 }
@@ -51,7 +50,8 @@ pub(crate) fn moved_rule(
     cost: Cost,
     states: &mut Vec<u32>,
 ) -> Result<Rule<u32>, AllocError>
-    requires { IsNormalSide rule.now.right }
+    requires normal { IsNormalSide rule.now.right }
+    requires raised { CanRaise by rule.now }
     ensures { IfOk result (λ r. r ≡ moved left by cost rule.now) }
 {
     count_of(rule);

@@ -3,11 +3,11 @@ ghost use Rattle.std.specs.Prelude.{◌≡◌, ◌+◌, ◌++◌, ◌≤◌, ◌
 ghost use Rattle.tib_grammar.specs.Forms.{AreNormal};
 ghost use Rattle.tib_grammar.specs.Range.{AreInRange};
 ghost use Rattle.tib_grammar_file.specs.Printed.{AreLabelled};
-ghost use Rattle.tib_compare.specs.Beside.{moved};
+ghost use Rattle.tib_compare.specs.Beside.{moved, CanRaiseAll};
 ghost use Rattle.tib_compare.specs.Wanted.{ArePriced, HasMark, HasNoMark, holds, differs, is_marked, node_cost, wanted};
 ghost use Rattle.tib_compare.specs.Least.{IsLeastWanted, IsOfWanted, IsOfList};
 
-use crate::moving::{moved_rule, raised_state};
+use crate::moving::{moved_rule, raised_left};
 use std::alloc::{AllocError, Global};
 use tib_cost::{Cost, MinPlus};
 use tib_determinize::Vector;
@@ -69,12 +69,12 @@ pub(crate) fn is_some_marked(marks: &[bool]) -> bool
 }
 
 // What a node costs, as a cost.
-fn node_price() -> Result<Cost, AllocError>
-    ensures { IfOk result (λ c. c ≡ node_cost) }
+fn node_price() -> Cost
+    ensures { result ≡ node_cost }
 {
     match Cost::new(NODE_COST) {
-        Some(cost) => Ok(cost),
-        None => Err(AllocError),
+        Some(cost) => cost,
+        None => unreachable!(),
     }
 }
 
@@ -85,13 +85,14 @@ fn put_all(
     price: Cost,
     all: &mut Vec<Rule<u32>>,
 ) -> Result<(), AllocError>
-    requires { AreNormal rules.now }
+    requires normal { AreNormal rules.now }
+    requires raised { CanRaiseAll 1 rules.now }
     ensures { OnOk result (all.new.items
         ≡ all.old.items ++ map (λ r. moved (1 + r.left) 1 price r) rules.now) }
 {
     let mut states = Vec::new(alloc);
     for rule in rules {
-        let left = raised_state(1, rule.left)?;
+        let left = raised_left(rule, 1);
         all.push(moved_rule(alloc, rule, left, 1, price, &mut states)?)?;
     }
     Ok(())
@@ -107,6 +108,7 @@ fn put_marked(
 ) -> Result<(), AllocError>
     requires normal { AreNormal rules.now }
     requires range { AreInRange (length marks.now) rules.now }
+    requires raised { CanRaiseAll 1 rules.now }
     ensures { OnOk result (all.new.items
         ≡ all.old.items ++ map (λ r. moved 0 1 price r) (filter (is_marked marks.now) rules.now)) }
 {
@@ -127,9 +129,10 @@ fn wanted_rules(
 ) -> Result<Vec<Rule<u32>>, AllocError>
     requires normal { AreNormal rules.now }
     requires range { AreInRange (length marks.now) rules.now }
+    requires raised { CanRaiseAll 1 rules.now }
     ensures { IfOk result (λ v. v.items ≡ wanted marks.now rules.now) }
 {
-    let price = node_price()?;
+    let price = node_price();
     let mut all = Vec::with_capacity(alloc, rules.len())?;
     put_all(alloc, rules, price, &mut all)?;
     put_marked(alloc, rules, marks, price, &mut all)?;

@@ -7,7 +7,11 @@ use Rattle.tib_grammar_file.specs.Printed.{AreLabelled}
 use Rattle.tib_compare.specs.Wanted.{ArePriced, wanted}
 use Rattle.tib_compare.proofs.Wanting.{wanted_normal, wanted_priced}
 use Rattle.tib_compare.proofs.Labelling.{wanted_labelled, wanted_range, wanted_few}
+use Rattle.tib_compare.proofs.Together.{can_raise}
 use Rattle.tib_compare.proofs.wanted.least_wanted.Goals as goal
+
+pub wanted_rules-requires-clause-raised : goal.wanted_rules-requires-clause-raised
+wanted_rules-requires-clause-raised c = can_raise 1 (length c.args.marks.now) c.args.rules.now c.requires.normal c.requires.range (omega (arith, c.requires.many))
 
 pub best_wanted-requires-clause-few : goal.best_wanted-requires-clause-few
 best_wanted-requires-clause-few c =
