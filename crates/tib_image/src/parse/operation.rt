@@ -149,8 +149,9 @@ pub struct Parse<'a, S> {
 impl<'a, S> Parse<'a, S> {
     /// What is hunted for a transducer and a string. `Class` exactly where the transducer is not
     /// linear and nondeleting: it names the first such rule, and linear comes before nondeleting.
-    /// `OutOfMemory` only if memory is refused, or where the string has 2^32 words or more. Cost: a
-    /// few passes over the rules of the transducer.
+    /// `OutOfMemory` only if memory is refused, or where the string has 2^32 words or more, a
+    /// left-hand side more than 4,000,000,000 items, or its variables more than 4,000,000,000
+    /// labels. Cost: a few passes over the rules of the transducer.
     pub fn new(
         alloc: Global,
         transducer: &'a StringTransducer<S>,

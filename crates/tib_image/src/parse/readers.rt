@@ -28,7 +28,7 @@ fn copy_item(item: &Item<Variable>) -> Item<Variable>
     }
 }
 
-/// A copy of a left-hand side. Err only if memory is refused.
+/// A copy of a left-hand side. Err if memory is refused, or it has more than 4,000,000,000 items.
 fn copy_side(alloc: Global, side: &Side<Variable>) -> Result<Side<Variable>, AllocError>
     ensures { IfOk result (λ s. s ≡ side.now) }
 {
@@ -42,7 +42,7 @@ fn copy_side(alloc: Global, side: &Side<Variable>) -> Result<Side<Variable>, All
     }
     match Side::from_preorder(copies) {
         Ok(copy) => Ok(copy),
-        Err(_) => Err(AllocError),
+        Err(_) => unreachable!(),
     }
 }
 
@@ -53,11 +53,11 @@ fn no_output(alloc: Global) -> Result<Side<Pair<u32>>, AllocError>
     let items = Vec::from_array(alloc, [Item::Label { label: 0, rank: 0 }])?;
     match Side::from_preorder(items) {
         Ok(side) => Ok(side),
-        Err(_) => Err(AllocError),
+        Err(_) => unreachable!(),
     }
 }
 
-/// A rule that reads what another reads. Err only if memory is refused.
+/// A rule that reads what another reads. Err as `copy_side`.
 fn reader_of(alloc: Global, rule: &StringRule<u32>) -> Result<TransducerRule<u32>, AllocError>
     ensures { IfOk result (λ r. r ≡ as_rule rule.now) }
 {
@@ -71,7 +71,7 @@ fn reader_of(alloc: Global, rule: &StringRule<u32>) -> Result<TransducerRule<u32
     })
 }
 
-/// Rules that read what others read. Err only if memory is refused.
+/// Rules that read what others read. Err as `copy_side`.
 fn readers_of(
     alloc: Global,
     rules: &[StringRule<u32>],
@@ -85,8 +85,9 @@ fn readers_of(
     Ok(readers)
 }
 
-/// The restrictions of the variables of some rules. Err only if memory is refused. Its time is that
-/// of a few passes over the left-hand sides.
+/// The restrictions of the variables of some rules. Err if memory is refused, or a left-hand side
+/// has more than 4,000,000,000 items, or the variables more than 4,000,000,000 labels. Its time is
+/// that of a few passes over the left-hand sides.
 pub(crate) fn restrictions_of(
     alloc: Global,
     rules: &[StringRule<u32>],
