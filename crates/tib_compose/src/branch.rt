@@ -37,8 +37,8 @@ pub struct Branch {
 }
 
 impl Branch {
-    /// Puts out a piece, unless it is a label that is to be read: then this is returned. Err only if
-    /// memory is refused.
+    /// Puts out a piece, unless it is a label that is to be read: then this is returned. Err only
+    /// if memory is refused.
     fn take(
         &mut self,
         items: &[Item<Pair<u32>>],
@@ -72,8 +72,8 @@ impl Branch {
     }
 
     /// Puts out pieces up to the next label that is to be read, and returns this; none where all is
-    /// put out. Err only if memory is refused; some pieces are then put out. Cost: one step for each
-    /// piece.
+    /// put out. Err only if memory is refused; some pieces are then put out. Cost: one step for
+    /// each piece.
     pub fn advance(&mut self, items: &[Item<Pair<u32>>]) -> Result<Option<Reading>, AllocError>
         requires nodes { AreNodesBelow (length items.now) self.old.pending.tasks.items }
         ensures advanced { IfOk result (λ reading. IsAdvanced items.now self.old self.new reading) }
