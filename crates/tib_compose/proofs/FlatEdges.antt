@@ -6,7 +6,7 @@ use Rattle.tib_lex.specs.Lists.{Has, total}
 use Rattle.tib_lex.proofs.Lists.{head_is, tail_is}
 use Rattle.tib_lex.proofs.Places.{take_drop}
 use Rattle.tib_cost.specs.Semiring.{most, cut, ProductLaws}
-use Rattle.tib_tree.specs.Trees.{Trees, preorder_of, parse, other_trees, count, HasChildren}
+use Rattle.tib_tree.specs.Trees.{Trees, preorder_of, parse, other_trees, count, HasChildren, IsOneTree}
 use Rattle.tib_grammar.specs.Sides.{Symbol, label, hole, Side as SideFor}
 use Rattle.tib_grammar.specs.Items.{pairs_of, pair_of}
 use Rattle.tib_grammar.specs.declared.Item.{Item}
@@ -21,15 +21,16 @@ use Rattle.tib_key_edges.specs.Composition.{edge_parts}
 use Rattle.tib_key_edges.proofs.Pieces.{goes_by_pieces}
 use Rattle.tib_key_edges.specs.Pieces.{Piece as PieceOf, Result, GoesByPieces, pieces_of, results, results_by, read}
 use Rattle.tib_compose.specs.Ends.{IsSkipped}
-use Rattle.tib_compose.specs.FlatSides.{ArePairsFrom, IsFlatOver, KeptOverruns, ListsKept, PutsBelow, PutsRight, flat_results, kept, leaf}
+use Rattle.tib_compose.specs.FlatSides.{ArePairsFrom, IsFlatOver, KeptOverruns, ListsKept, PutsBelow, PutsRight, ReadsFlat, flat_results, kept, leaf}
 use Rattle.tib_compose.specs.KeyEdges.{rule_edges}
 use Rattle.tib_compose.specs.CompositionListing.{IsAdded, IsListing, IsTooMuch}
 use Rattle.tib_compose.specs.PieceViews.{AreKnown, kids_there, piece_below, side_there}
 use Rattle.tib_compose.specs.Readers.{readers, readers_with}
-use Rattle.tib_compose.specs.Searches.{affordable, all_of, reader_results}
+use Rattle.tib_compose.specs.Searches.{affordable, all_of, AreOneTrees, reader_results}
 use Rattle.tib_compose.specs.Walk.{AreReady, result_edges}
 use Rattle.tib_compose.specs.declared.listing.CompositionListing.{CompositionListing}
 use Rattle.tib_compose.proofs.Listed.{listing_added, listing_overruns}
+use Rattle.tib_compose.proofs.Outputs.{reader_trees}
 use Rattle.tib_compose.proofs.Taking.{hole_below, label_taken, no_pieces, one_piece, pair_taken, put_taken}
 use Rattle.tib_compose.proofs.Walking.{all_append, by_readers, drop_past, edges_append, has_there, is_reader, kids_count, known_from, total_front}
 use Rattle.tib_compose.proofs.Whole.{rule_comes, take_more, take_past}
@@ -192,6 +193,32 @@ any_at [] i d e h = absurd (omega arith)
 any_at (x ∷ xs) zero d e h = refl
 any_at (x ∷ xs) (suc i) d e h = any_at xs i d e (omega arith)
 
+-- as many trees are below the label
+flat_count : (items : List (Item (Pair ℕ))) (f k : ℕ) → IsFlatOver (pairs_of items) f k → HasChildren (pairs_of items) → count (kids_there (pairs_of items) 0 k) ≡ k
+flat_count [] f k (xs, e) c = absurd (cc)
+flat_count (Label g j ∷ items) f k (xs, e) c =
+    let head : ◌≡◌ {A = Symbol ℕ (Pair ℕ) × ℕ} (label g, j) (label f, k) = head_is e in
+    let same : ◌≡◌ {A = Item (Pair ℕ)} (Label g j) (Label f k) = ap item_of head in
+    kids_count (Label g j ∷ items) 0 f k c (omega arith) same
+flat_count (Hole x ∷ items) f k (xs, e) c =
+    let head : ◌≡◌ {A = Symbol ℕ (Pair ℕ) × ℕ} (hole x, 0) (label f, k) = head_is e in
+    absurd (subst HasLabel (sym head) tt)
+
+-- what a rule puts out in place of such a side is one tree
+pub flat_tree :
+    (product : ℕ → ℕ → ℕ) (two : List (TransducerRule ℕ)) → AreReady product two → (items right : List (Item (Pair ℕ))) (done : List (Item (Pair (ℕ × ℕ)))) (m : ℕ) (reads : ReadsFlat two items m) → m < length two →
+    pairs_of right ≡ preorder_of (transducer_rule two m).right → PutsRight items right done → IsOneTree (pairs_of done)
+flat_tree product two ready items right done m (p, f, n, flat, children, reads) low is puts =
+    let kids : Trees (Symbol ℕ (Pair ℕ)) = kids_there (pairs_of items) 0 n in
+    let cost : ℕ = product 0 (transducer_rule two m).cost in
+    let here : AreOneTrees (results product two cost [] (pieces_of (preorder_of (transducer_rule two m).right) kids ++ [])) =
+    reader_trees product two ready.shaped ready.goes 0 f kids p m low (subst (λ k. reads_label p f k (transducer_rule two m) ≡ true) (sym (flat_count items f n flat children)) reads)
+    in
+    let same : results product two cost [] (pieces_of (preorder_of (transducer_rule two m).right) kids ++ []) ≡ (cost, pairs_of done) ∷ [] =
+    ap (λ xs. results product two cost [] (pieces_of xs kids ++ [])) (sym is) ∙ puts product two ready.goes f n flat (known_from two ready.shaped p f n m low reads right is) cost
+    in
+    (subst AreOneTrees same here).0
+
 -- all of them
 module _ (product : ℕ → ℕ → ℕ) (one two : List (TransducerRule ℕ)) (key : ℕ × ℕ) (n : ℕ) (ready : AreReady product two) (rule : TransducerRule ℕ) (at : rule ≡ transducer_rule one n)
     (items : List (Item (Pair ℕ))) (is : pairs_of items ≡ preorder_of (transducer_rule one n).right) (f k : ℕ) (flat : IsFlatOver (pairs_of items) f k) (children : HasChildren (pairs_of items))
@@ -201,17 +228,7 @@ module _ (product : ℕ → ℕ → ℕ) (one two : List (TransducerRule ℕ)) (
   of_readers ms = result_edges key rule.left (all_of (flat_results product two rule items k) ms)
 
   many : count (kids_there (pairs_of items) 0 k) ≡ k
-  many = root items flat children
-    where
-      root : (items : List (Item (Pair ℕ))) → IsFlatOver (pairs_of items) f k → HasChildren (pairs_of items) → count (kids_there (pairs_of items) 0 k) ≡ k
-      root [] (xs, e) c = absurd (cc)
-      root (Label g j ∷ items) (xs, e) c =
-          let head : ◌≡◌ {A = Symbol ℕ (Pair ℕ) × ℕ} (label g, j) (label f, k) = head_is e in
-          let same : ◌≡◌ {A = Item (Pair ℕ)} (Label g j) (Label f k) = ap item_of head in
-          kids_count (Label g j ∷ items) 0 f k c (omega arith) same
-      root (Hole x ∷ items) (xs, e) c =
-          let head : ◌≡◌ {A = Symbol ℕ (Pair ℕ) × ℕ} (hole x, 0) (label f, k) = head_is e in
-          absurd (subst HasLabel (sym head) tt)
+  many = flat_count items f k flat children
 
   flat_edges : of_readers ps ≡ rule_edges product one two key n
   flat_edges =

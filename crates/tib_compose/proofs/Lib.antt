@@ -7,6 +7,7 @@ mod Left
 mod Advance
 mod Listed
 mod Walking
+mod Outputs
 mod Steps
 mod Turns
 mod Whole

@@ -5,7 +5,7 @@ use Rattle.std.proofs.Common.{zero, suc, arith, ap, sym, ◌∙◌, subst, get_o
 use Rattle.std.proofs.lemmas.List.{drop_more}
 use Rattle.std.specs.Global.{Vec}
 use Rattle.tib_lex.specs.Lists.{Has, total}
-use Rattle.tib_tree.specs.Trees.{Trees, preorder_of, count}
+use Rattle.tib_tree.specs.Trees.{Trees, preorder_of, count, IsOneTree}
 use Rattle.tib_cost.specs.Semiring.{most, cut, ProductLaws}
 use Rattle.tib_cost.specs.Least.{times}
 use Rattle.tib_lex.proofs.Numbers.{nat_le_cases}
@@ -24,7 +24,7 @@ use Rattle.tib_compose.specs.CompositionListing.{edge_of, IsListing, IsAdded, Is
 use Rattle.tib_compose.specs.Pending.{BoundsAll, Holds, Stands, Extends}
 use Rattle.tib_compose.specs.PieceViews.{kids_there}
 use Rattle.tib_compose.specs.Readers.{readers, readers_with}
-use Rattle.tib_compose.specs.Searches.{affordable, all_of, reader_results, turn_results, AreTurns, Remains, turn_at, tried_more, Meets}
+use Rattle.tib_compose.specs.Searches.{affordable, all_of, AreOneTrees, reader_results, turn_results, AreTurns, Remains, turn_at, tried_more, Meets}
 use Rattle.tib_compose.specs.Sources.{IsSource, PutsPieces}
 use Rattle.tib_compose.specs.Walk.{AreReady, result_edges, ReadComes, IsRead, IsUnderway, IsOnBranch}
 use Rattle.tib_compose.specs.declared.branch.Branch.{Branch}
@@ -139,6 +139,7 @@ module _ (source : Source) (left : SideFor ℕ Variable) (product : ℕ → ℕ 
         remains = subst (λ (x : Branch). AreTurns product two pairs (reverse new.turns.items) x.done.items x.pending.tasks.items (turn_results product two pairs u (pairs_of b.done.items) come.0 ++ h.left_over)) (sym meets.branch)
             (subst (λ ts. AreTurns product two pairs ts b.done.items b.pending.tasks.items (turn_results product two pairs u (pairs_of b.done.items) come.0 ++ h.left_over))
             (sym (turns_reverse old.turns.items new.turns.items u meets.turns)) turns);
+        trees = subst (λ rs. AreOneTrees (rs ++ h.left_over)) same h.trees;
         whole = subst (λ rs. h.listed ++ result_edges key left (rs ++ h.left_over) ≡ all) same h.whole;
       }
 
@@ -152,10 +153,17 @@ module _ (source : Source) (left : SideFor ℕ Variable) (product : ℕ → ℕ 
         ap affordable (a.comes product two ready.goes h.pieces h.holds ∙ ap (λ c. (c, pairs_of new.branch.done.items) ∷ []) (sym a.puts.cost))
         ∙ affordable_one (new.branch.cost, pairs_of new.branch.done.items) cheap
 
+    one_tree : AreOneTrees ((new.branch.cost, pairs_of new.branch.done.items) ∷ h.left_over)
+    one_tree = subst (λ rs. AreOneTrees (rs ++ h.left_over)) one_result h.trees
+
     one_more : (h.listed ++ edge_here ∷ []) ++ result_edges key left h.left_over ≡ all
     one_more =
         append_assoc h.listed (edge_here ∷ []) (result_edges key left h.left_over)
         ∙ subst (λ rs. h.listed ++ result_edges key left (rs ++ h.left_over) ≡ all) one_result h.whole
+
+    -- what was put out is one tree
+    pub on_to_tree : IsOneTree (pairs_of new.branch.done.items)
+    on_to_tree = one_tree.0
 
     pub on_to_end : (after : CompositionListing) → new.turns ≡ old.turns → IsAdded left new.branch.done.items new.branch.cost before after → IsUnderway product two source left order key all new after
     on_to_end after turns added = record {
@@ -164,6 +172,7 @@ module _ (source : Source) (left : SideFor ℕ Variable) (product : ℕ → ℕ 
       lists = listing_added order key h.listed left new.branch.done.items new.branch.cost before after added h.lists;
       remains = subst (λ (ts : Vec ReturnPoint). AreTurns product two pairs (reverse ts.items) new.branch.done.items new.branch.pending.tasks.items h.left_over) (sym turns)
           (turns_stay old new.branch h.left_over a.puts.tasks a.puts.done h.remains);
+      trees = one_tree.1;
       whole = one_more;
     }
 
@@ -196,6 +205,7 @@ module _ (source : Source) (left : SideFor ℕ Variable) (product : ℕ → ℕ 
               (subst (λ us. AreTurns product two pairs (reverse us) old.branch.done.items old.branch.pending.tasks.items h.left_over) (sym turns)
               (subst (AreTurns product two pairs (reverse ts) old.branch.done.items old.branch.pending.tasks.items) (sym rest)
               (turn_over product two pairs (reverse ts) t.done t.tasks old.branch.done.items old.branch.pending.tasks.items below.1 below.6)));
+          trees = h.trees;
           whole = h.whole;
         }
 
@@ -258,6 +268,8 @@ module _ (source : Source) (left : SideFor ℕ Variable) (product : ℕ → ℕ 
             lists = h.lists;
             holds = subst (λ (x : Branch). Holds product two pairs x.pending come.0) (sym is_branch) come.1;
             remains = remains_now read;
+            trees = subst (λ (x : Branch). AreOneTrees (affordable (results product two x.cost (pairs_of x.done.items) come.0) ++ left_now)) (sym is_branch)
+                (subst (λ rs. AreOneTrees (rs ++ left_now)) (sym come.2) (subst AreOneTrees split h.trees));
             whole = subst (λ (x : Branch). h.listed ++ result_edges key left (affordable (results product two x.cost (pairs_of x.done.items) come.0) ++ left_now) ≡ all) (sym is_branch)
                 (subst (λ rs. h.listed ++ result_edges key left (rs ++ left_now) ≡ all) (sym come.2) (subst (λ rs. h.listed ++ result_edges key left rs ≡ all) split h.whole));
           }
@@ -271,5 +283,6 @@ module _ (source : Source) (left : SideFor ℕ Variable) (product : ℕ → ℕ 
             left_over = left_now;
             lists = h.lists;
             remains = remains_now read;
+            trees = subst (λ rs. AreOneTrees (rs ++ left_now)) come (subst AreOneTrees split h.trees);
             whole = subst (λ rs. h.listed ++ result_edges key left (rs ++ left_now) ≡ all) come (subst (λ rs. h.listed ++ result_edges key left rs ≡ all) split h.whole);
           }

@@ -23,13 +23,14 @@ use Rattle.tib_key_edges.specs.Pieces.{Result, results, read, put}
 use Rattle.tib_compose.specs.KeyEdges.{rule_edges}
 use Rattle.tib_compose.specs.CompositionListing.{edge_of, IsListing}
 use Rattle.tib_compose.specs.PieceViews.{side_there}
-use Rattle.tib_compose.specs.Searches.{affordable, all_of, AreTurns, Begins}
+use Rattle.tib_compose.specs.Searches.{affordable, all_of, AreOneTrees, AreTurns, Begins}
 use Rattle.tib_compose.specs.Sources.{IsSource}
 use Rattle.tib_compose.specs.Walk.{AreReady, result_edges, IsOnBranch}
 use Rattle.tib_compose.specs.declared.listing.CompositionListing.{CompositionListing}
 use Rattle.tib_compose.specs.declared.search.ReturnPoint.{ReturnPoint}
 use Rattle.tib_compose.specs.declared.search.Search.{Search}
 use Rattle.tib_compose.specs.declared.source.Source.{Source}
+use Rattle.tib_compose.proofs.Outputs.{affordable_trees, side_trees}
 use Rattle.tib_compose.proofs.Walking.{total_front, all_append}
 
 -- the first tree of what is put out in place of a hole
@@ -87,6 +88,11 @@ module _ (product : ℕ → ℕ → ℕ) (one two : List (TransducerRule ℕ)) (
       lists = lists;
       holds = b.left two (pairs_of source.items.now);
       remains = subst (λ (ts : List ReturnPoint). AreTurns product two (pairs_of source.items.now) (reverse ts) search.branch.done.items search.branch.pending.tasks.items []) (sym b.turns) refl;
+      trees =
+          let side : SideFor ℕ (Pair ℕ) = side_there (pairs_of source.items.now) 0 in
+          subst AreOneTrees (sym (append-nil (affordable (results product two search.branch.cost (pairs_of search.branch.done.items) (read side key.1 ∷ [])))))
+          (subst (λ d. AreOneTrees (affordable (results product two search.branch.cost (pairs_of d) (read side key.1 ∷ [])))) (sym b.done)
+          (affordable_trees (results product two search.branch.cost [] (read side key.1 ∷ [])) (side_trees product two ready.shaped ready.goes search.branch.cost key.1 side)));
       whole = ap (λ xs. es ++ xs)
           (ap (result_edges key (transducer_rule one n).left) (append-nil (affordable (results product two search.branch.cost (pairs_of search.branch.done.items) (read (side_there (pairs_of source.items.now) 0) key.1 ∷ []))))
           ∙ ap (λ k. result_edges key (transducer_rule one n).left (affordable (results product two k (pairs_of search.branch.done.items) (read (side_there (pairs_of source.items.now) 0) key.1 ∷ [])))) b.costs

@@ -2,6 +2,7 @@
 -- with them.
 use Rattle.std.specs.Prelude.{◌≡◌, ℕ, ◌<◌, List, [], ◌∷◌, ◌++◌, length, map, drop, Option, None, Some, true}
 use Rattle.tib_lex.specs.Lists.{total}
+use Rattle.tib_tree.specs.Trees.{HasChildren}
 use Rattle.tib_grammar.specs.Sides.{Symbol, hole, label, Side as SideFor}
 use Rattle.tib_grammar.specs.Items.{pairs_of}
 use Rattle.tib_grammar.specs.declared.Item.{Item}
@@ -29,6 +30,10 @@ ArePairsFrom i items = (xs : List (Pair ℕ)) × (drop i (pairs_of items) ≡ ma
 -- the preorder is the label f over n trees, with pairs alone after it
 abbrev pub IsFlatOver : List (Symbol ℕ (Pair ℕ) × ℕ) → ℕ → ℕ → Type 0
 IsFlatOver pairs f n = (xs : List (Pair ℕ)) × (pairs ≡ (label f, n) ∷ map leaf xs)
+
+-- the rule at a position reads the label of such a side
+abbrev pub ReadsFlat : List (TransducerRule ℕ) → List (Item (Pair ℕ)) → ℕ → Type 0
+ReadsFlat two items m = (p : ℕ) × (f : ℕ) × (n : ℕ) × IsFlatOver (pairs_of items) f n × HasChildren (pairs_of items) × (reads_label p f n (transducer_rule two m) ≡ true)
 
 -- an item of a rule's right-hand side is put out below such a side, before other pieces
 abbrev pub PutsBelow : List (Item (Pair ℕ)) → Item (Pair ℕ) → List (Item (Pair (ℕ × ℕ))) → List (Item (Pair (ℕ × ℕ))) → Type 0

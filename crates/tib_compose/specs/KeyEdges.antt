@@ -19,6 +19,10 @@ pub record IsSourceOf (product : ℕ → ℕ → ℕ) (two : List (TransducerRul
   pub items : pairs_of source.items.now ≡ preorder_of r.right
   pub known : AreReady product two → IsSource product two source
 
+-- some edges of the pair are listed, over some order
+abbrev pub HasListing : ℕ × ℕ → CompositionListing → Type 0
+HasListing key l = (order : List (ℕ × ℕ)) × (es : List (TransducerRule (ℕ × ℕ))) × IsListing order key es l
+
 module _ (product : ℕ → ℕ → ℕ) (one two : List (TransducerRule ℕ)) (key : ℕ × ℕ) where
   -- the edges of the pair along the rule at a position
   abbrev pub rule_edges : ℕ → List (TransducerRule (ℕ × ℕ))

@@ -1,7 +1,7 @@
 -- The search through all translations of a right-hand side.
 use Rattle.std.specs.Prelude.{◌≡◌, ℕ, ◌+◌, ◌<◌, ◌≤◌, List, [], ◌∷◌, ◌++◌, length, map, reverse, take, drop, nat_le, if◌then◌else◌, Some}
 use Rattle.tib_lex.specs.Lists.{Each}
-use Rattle.tib_tree.specs.Trees.{Trees, preorder_of}
+use Rattle.tib_tree.specs.Trees.{Trees, preorder_of, IsOneTree}
 use Rattle.tib_cost.specs.Semiring.{most}
 use Rattle.tib_grammar.specs.Sides.{Symbol}
 use Rattle.tib_grammar.specs.Items.{pairs_of}
@@ -27,6 +27,10 @@ use Rattle.tib_compose.specs.declared.search.Search.{Search}
 abbrev pub affordable : List Result → List Result
 affordable [] = []
 affordable (r ∷ rs) = if nat_le r.0 most then r ∷ affordable rs else affordable rs
+
+-- each result is one tree
+abbrev pub AreOneTrees : List Result → Type 0
+AreOneTrees rs = Each (λ (r : Result). IsOneTree r.1) rs
 
 -- what a function gives for each number of a list
 abbrev pub all_of : {A : Type 0} → (ℕ → List A) → List ℕ → List A

@@ -14,7 +14,7 @@ use Rattle.tib_key_edges.specs.Pieces.{Piece as PieceOf, Result, results, GoesBy
 use Rattle.tib_compose.specs.CompositionListing.{edge_of, IsListing}
 use Rattle.tib_compose.specs.Pending.{AreNodesBelow, Extends, Holds}
 use Rattle.tib_compose.specs.PieceViews.{kids_there}
-use Rattle.tib_compose.specs.Searches.{affordable, reader_results, Remains}
+use Rattle.tib_compose.specs.Searches.{affordable, AreOneTrees, reader_results, Remains}
 use Rattle.tib_compose.specs.Sources.{IsSource}
 use Rattle.tib_compose.specs.declared.branch.Branch.{Branch}
 use Rattle.tib_compose.specs.declared.listing.CompositionListing.{CompositionListing}
@@ -62,6 +62,7 @@ module _ (product : ℕ → ℕ → ℕ) (two : List (TransducerRule ℕ)) (sour
       pub left_over : List Result
       pub lists : IsListing order key listed listing
       pub remains : Remains product two (pairs_of source.items.now) search left_over
+      pub trees : AreOneTrees left_over
       pub whole : listed ++ result_edges key left left_over ≡ all
 
     -- the same where what comes of the branch is left as well
@@ -72,9 +73,21 @@ module _ (product : ℕ → ℕ → ℕ) (two : List (TransducerRule ℕ)) (sour
       pub lists : IsListing order key listed listing
       pub holds : Holds product two (pairs_of source.items.now) search.branch.pending pieces
       pub remains : Remains product two (pairs_of source.items.now) search left_over
+      pub trees : AreOneTrees (affordable (results product two search.branch.cost (pairs_of search.branch.done.items) pieces) ++ left_over)
       pub whole : listed ++ result_edges key left (affordable (results product two search.branch.cost (pairs_of search.branch.done.items) pieces) ++ left_over) ≡ all
 
 module _ (source : Source) (left : SideFor ℕ Variable) where
+  -- some walk has come to the branch
+  pub record HasCome (search : Search) (listing : CompositionListing) : Type 0 where
+    pub product : ℕ → ℕ → ℕ
+    pub two : List (TransducerRule ℕ)
+    pub ready : AreReady product two
+    pub known : IsSource product two source
+    pub order : List (ℕ × ℕ)
+    pub key : ℕ × ℕ
+    pub all : List (TransducerRule (ℕ × ℕ))
+    pub branch : IsOnBranch product two source left order key all search listing
+
   -- what comes of the branch is listed, or is left to come
   abbrev pub GoesOn : Search → Search → CompositionListing → CompositionListing → Type 0
   GoesOn old new before after =
@@ -88,6 +101,10 @@ module _ (source : Source) (left : SideFor ℕ Variable) where
       IsOnBranch product two source left order key all old before → before.budget < total edge_parts all
 
 module _ (product : ℕ → ℕ → ℕ) (two : List (TransducerRule ℕ)) (source : Source) (left : SideFor ℕ Variable) where
+  -- some walk is underway
+  abbrev pub HasBegun : Search → CompositionListing → Type 0
+  HasBegun search listing = (order : List (ℕ × ℕ)) × (key : ℕ × ℕ) × (all : List (TransducerRule (ℕ × ℕ))) × IsUnderway product two source left order key all search listing
+
   -- the walk is underway still, or all edges are listed
   abbrev pub StepComes : List (ℕ × ℕ) → ℕ × ℕ → List (TransducerRule (ℕ × ℕ)) → Search → CompositionListing → Bool → Type 0
   StepComes order key all new after true = IsUnderway product two source left order key all new after

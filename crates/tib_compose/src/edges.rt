@@ -3,7 +3,7 @@
 
 ghost use Rattle.std.specs.Prelude.{◌≡◌, ◌<◌, ◌≤◌, length, IfOk, OnOk, Err};
 ghost use Rattle.tib_expand.specs.Reached.{most_parts};
-ghost use Rattle.tib_compose.specs.KeyEdges.{IsSourceOf, KeyOverruns, ListsKey, ListsRule, RuleOverruns};
+ghost use Rattle.tib_compose.specs.KeyEdges.{HasListing, IsSourceOf, KeyOverruns, ListsKey, ListsRule, RuleOverruns};
 ghost use Rattle.tib_compose.specs.CompositionListing.{IsWithinBudget};
 
 use crate::bounds::Bounds;
@@ -63,6 +63,7 @@ impl<'a, S: Semiring> Composite<'a, S> {
     ) -> Result<(), ExpandError>
         requires below { position < length self.now.first.now.rules }
         requires within { IsWithinBudget listing.old }
+        requires listing { HasListing key listing.old }
         ensures listed { OnOk result (ListsRule S.product self.now.first.now.rules
             self.now.second.now.rules key position listing.old listing.new) }
         ensures more { result ≡ Err ExpandError.More → RuleOverruns S.product
@@ -106,6 +107,7 @@ impl<'a, S: Semiring> Composite<'a, S> {
     ) -> Result<(), ExpandError>
         requires below { position < length self.now.first.now.rules }
         requires within { IsWithinBudget listing.old }
+        requires listing { HasListing key listing.old }
         ensures listed { OnOk result (ListsRule S.product self.now.first.now.rules
             self.now.second.now.rules key position listing.old listing.new) }
         ensures more { result ≡ Err ExpandError.More → RuleOverruns S.product

@@ -1,11 +1,10 @@
 //! Right-hand sides of one label over pairs. Each rule that reads the label translates such a side,
 //! in one way, so no search is begun.
 
-ghost use Rattle.std.specs.Prelude.{◌≡◌, ℕ, ◌<◌, true, IfSome, IsTrue, OnOk, Err, length};
+ghost use Rattle.std.specs.Prelude.{◌≡◌, ℕ, ◌<◌, IfSome, IsTrue, OnOk, Err, length};
 ghost use Rattle.tib_grammar.specs.Items.{pairs_of};
-ghost use Rattle.tib_tree.specs.Trees.{preorder_of};
+ghost use Rattle.tib_tree.specs.Trees.{IsOneTree, preorder_of};
 ghost use Rattle.tib_transducer.specs.Rules.{transducer_rule};
-ghost use Rattle.tib_key_edges.specs.Choices.{reads_label};
 ghost use Rattle.tib_compose.specs.FlatSides.{
   ArePairsFrom,
   IsFlatOver,
@@ -15,6 +14,7 @@ ghost use Rattle.tib_compose.specs.FlatSides.{
   PutsBelow,
   PutsRight,
   ReaderOverruns,
+  ReadsFlat,
 };
 ghost use Rattle.tib_compose.specs.KeyEdges.{ListsRule, RuleOverruns};
 ghost use Rattle.tib_compose.specs.CompositionListing.{IsWithinBudget};
@@ -122,6 +122,7 @@ fn list_kept<'a>(
     listing: &mut CompositionListing<'a>,
 ) -> Result<(), ExpandError>
     requires within { IsWithinBudget listing.old }
+    requires tree { IsOneTree (pairs_of done.now) }
     ensures listed { OnOk result (ListsKept left.now done.now cost listing.old listing.new) }
     ensures more { result ≡ Err ExpandError.More → KeptOverruns left.now done.now cost listing.old }
     ensures within { OnOk result (IsWithinBudget listing.new) }
@@ -150,8 +151,7 @@ impl<'a, S: Semiring> Composite<'a, S> {
     ) -> Result<(), ExpandError>
         requires below { position < length self.now.second.now.rules }
         requires pairs { ArePairsFrom 1 items.now }
-        requires reads { (p : ℕ) × (f : ℕ) × (n : ℕ) × (n < length items.now) × (reads_label p f n
-            (transducer_rule self.now.second.now.rules position) ≡ true) }
+        requires reads { ReadsFlat self.now.second.now.rules items.now position }
         requires within { IsWithinBudget listing.old }
         ensures listed { OnOk result (ListsReader S.product self.now.second.now.rules rule.now
             items.now position listing.old listing.new) }

@@ -2,7 +2,7 @@
 
 ghost use Rattle.std.specs.Prelude.{◌≡◌, ℕ, ◌+◌, ◌<◌, ◌≤◌, ◌++◌, ◌^◌, length, IfOk, OnOk, Err, []};
 ghost use Rattle.tib_grammar.specs.Items.{pairs_of};
-ghost use Rattle.tib_tree.specs.Trees.{preorder_of};
+ghost use Rattle.tib_tree.specs.Trees.{IsOneTree, preorder_of};
 ghost use Rattle.tib_expand.specs.Reached.{most_parts};
 ghost use Rattle.tib_compose.specs.CompositionListing.{IsAdded, IsPlacedRule, IsTooMuch, IsWithinBudget, keys_in, placed};
 
@@ -13,15 +13,18 @@ use tib_expand::{Edges, ExpandError, Place};
 use tib_grammar::{Item, Side};
 use tib_key_edges::StatePair;
 use tib_transducer::{Pair, Variable};
+use tib_tree::ShapeError;
 
-/// The side of some items. Err where they are no side.
-fn placed_side(items: Vec<Item<Pair<Place>>>) -> Result<Side<Pair<Place>>, AllocError>
+/// The side of some items.
+fn placed_side(items: Vec<Item<Pair<Place>>>) -> Side<Pair<Place>>
     requires few { length items.items < 2 ^ 32 }
-    ensures { IfOk result (λ s. preorder_of s ≡ pairs_of items.items) }
+    requires tree { IsOneTree (pairs_of items.items) }
+    ensures { preorder_of result ≡ pairs_of items.items }
 {
     match Side::from_preorder(items) {
-        Ok(side) => Ok(side),
-        Err(_) => Err(AllocError),
+        Ok(side) => side,
+        Err(ShapeError::NotATree) => unreachable!(),
+        Err(ShapeError::OutOfMemory) => unreachable!(),
     }
 }
 
@@ -99,13 +102,14 @@ impl<'a> CompositionListing<'a> {
         cost: Cost,
     ) -> Result<PlacedRule<'a>, AllocError>
         requires few { length self.old.ends.items ≤ most_parts }
+        requires tree { IsOneTree (pairs_of done.now) }
         ensures rule { IfOk result (IsPlacedRule left.now done.now cost self.old self.new) }
     {
         if done.len() > 4_000_000_000 {
             return Err(AllocError);
         }
         let items = place_items(alloc, done, &mut self.ends)?;
-        let right = placed_side(items)?;
+        let right = placed_side(items);
         Ok(PlacedRule {
             position: self.position,
             left,
@@ -125,6 +129,7 @@ impl<'a> CompositionListing<'a> {
         cost: Cost,
     ) -> Result<(), ExpandError>
         requires within { IsWithinBudget self.old }
+        requires tree { IsOneTree (pairs_of done.now) }
         ensures added { OnOk result (IsAdded left.now done.now cost self.old self.new) }
         ensures more { result ≡ Err ExpandError.More → IsTooMuch left.now done.now self.old }
         ensures within { OnOk result (IsWithinBudget self.new) }

@@ -5,7 +5,7 @@ ghost use Rattle.tib_compose.specs.CompositionListing.{IsWithinBudget};
 ghost use Rattle.tib_compose.specs.Pending.{AreNodesBelow};
 ghost use Rattle.tib_compose.specs.Searches.{AreTurnsAt};
 ghost use Rattle.tib_compose.specs.Sources.{IsSource};
-ghost use Rattle.tib_compose.specs.Walk.{GoesOn, GoesTooFar, IsRead, Steps, StepsTooFar};
+ghost use Rattle.tib_compose.specs.Walk.{GoesOn, GoesTooFar, HasBegun, HasCome, IsRead, Steps, StepsTooFar};
 
 use crate::branch::Branch;
 use crate::composite::Composite;
@@ -34,6 +34,7 @@ pub(crate) fn go_on<'a>(
     requires turns { AreTurnsAt source.now.items.now search.old.turns.items }
     requires nodes { AreNodesBelow (length source.now.items.now)
         search.old.branch.pending.tasks.items }
+    requires come { HasCome source.now left.now search.old listing.old }
     ensures goes { OnOk result (GoesOn source.now left.now search.old search.new listing.old
         listing.new) }
     ensures more { result ≡ Err ExpandError.More → GoesTooFar source.now left.now search.old
@@ -103,6 +104,8 @@ impl<'a, S: Semiring> Composite<'a, S> {
         requires turns { AreTurnsAt source.now.items.now search.old.turns.items }
         requires nodes { AreNodesBelow (length source.now.items.now)
             search.old.branch.pending.tasks.items }
+        requires begun { HasBegun S.product self.now.second.now.rules source.now left.now search.old
+            listing.old }
         ensures steps { IfOk result (Steps S.product self.now.second.now.rules source.now left.now
             search.old search.new listing.old listing.new) }
         ensures more { result ≡ Err ExpandError.More → StepsTooFar S.product

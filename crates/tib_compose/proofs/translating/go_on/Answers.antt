@@ -1,10 +1,12 @@
 use Rattle.std.proofs.Common.{◌≡◌, Err, refl, sym, ap, ◌∙◌, subst, Some, None, arith, length}
+use Rattle.tib_tree.specs.Trees.{IsOneTree}
+use Rattle.tib_grammar.specs.Items.{pairs_of}
 use Rattle.tib_compose.specs.Branches.{IsAdvanced}
 use Rattle.tib_compose.specs.CompositionListing.{IsTooMuch, IsAdded}
 use Rattle.tib_compose.specs.Searches.{turn_at}
 use Rattle.tib_compose.specs.declared.branch.Branch.{Branch}
 use Rattle.tib_compose.specs.declared.search.Search.{Search}
-use Rattle.tib_compose.proofs.Steps.{on_to_label, on_to_end, on_too_far}
+use Rattle.tib_compose.proofs.Steps.{on_to_label, on_to_end, on_to_tree, on_too_far}
 use Rattle.tib_compose.proofs.Turns.{more_at, nodes_same}
 use Rattle.tib_compose.proofs.translating.go_on.Goals as goal
 
@@ -41,3 +43,11 @@ returns-in-Err-add-clause-more c = λ e product two ready known order key all h.
     let new : Search = record { branch = c.advance.new.self; turns = c.args.search.now.turns } in
     on_too_far c.args.source.now c.args.left.now product two ready known order key all c.args.search.now new c.args.listing.now a (omega (arith, c.get.ensures.same, c.get.ensures.within)) h
     (subst (λ d. IsTooMuch c.args.left.now d c.args.listing.now) c.deref.ensures.value (c.add.ensures.more (c.in-Err-add.is ∙ e)))
+
+pub add-requires-clause-tree : goal.add-requires-clause-tree
+add-requires-clause-tree c =
+    let a = subst (IsAdvanced c.args.source.now.items.now c.args.search.now.branch c.advance.new.self) c.in-None.is c.in-Ok.ensures.advanced in
+    let new : Search = record { branch = c.advance.new.self; turns = c.args.search.now.turns } in
+    let w = c.requires.come in
+    subst (λ d. IsOneTree (pairs_of d)) (sym c.deref.ensures.value)
+    (on_to_tree c.args.source.now c.args.left.now w.product w.two w.ready w.known w.order w.key w.all c.args.search.now new c.args.listing.now a (omega (arith, c.get.ensures.same, c.get.ensures.within)) w.branch)

@@ -24,6 +24,18 @@ any_at (x ∷ xs) (suc i) d e h = any_at xs i d e (omega arith)
 itself_at : (xs : List ℕ) (i : ℕ) → i < length xs → get_or xs i 0 ≡ get_or xs i (get_or xs i 0)
 itself_at xs i h = any_at xs i 0 (get_or xs i 0) h
 
+-- an order in which the pair has the position
+order_with : (n : ℕ) (k : ℕ × ℕ) → (order : List (ℕ × ℕ)) × (n < length order) × (get_or order n (0, 0) ≡ k)
+order_with zero k = (k ∷ [], omega arith, refl)
+order_with (suc n) k = let r = order_with n k in ((0, 0) ∷ r.0, omega (arith, r.1), r.2)
+
+pub list_rule-requires-clause-listing : goal.list_rule-requires-clause-listing
+list_rule-requires-clause-listing g c =
+    let ps = c.of-rule_position-items.result.now in
+    let i = c.loop-rule_position.rule_position-index in
+    let o = order_with c.args.position c.args.key in
+    (o.0, all_of (rule_edges g.S.Semiring.product c.args.self.now.first.now.rules c.args.self.now.second.now.rules c.args.key) (take i ps), c.loop-rule_position.invariant.listed o.0 o.1 o.2)
+
 pub list_rule-requires-clause-below : goal.list_rule-requires-clause-below
 list_rule-requires-clause-below g c =
     let one = c.args.self.now.first.now.rules in

@@ -10,7 +10,7 @@ use Rattle.tib_compose.specs.CompositionListing.{IsListing}
 use Rattle.tib_compose.specs.Readers.{readers_with}
 use Rattle.tib_compose.specs.Searches.{all_of}
 use Rattle.tib_compose.specs.Walk.{result_edges}
-use Rattle.tib_compose.proofs.FlatEdges.{are_ready, flat_long, flat_rest, reader_more, readers_all, readers_front, reads_there, there}
+use Rattle.tib_compose.proofs.FlatEdges.{are_ready, flat_rest, reader_more, readers_all, readers_front, reads_there, there}
 use Rattle.tib_compose.proofs.Walking.{has_there, is_reader}
 use Rattle.tib_compose.proofs.composite.Composite.list_flat.Goals as goal
 
@@ -52,7 +52,7 @@ list_reader-requires-clause-reads g c =
     let i = c.loop-reader.reader-index in
     let are : ps ≡ readers_with (c.second.result, c.args.label, c.args.rank) two = c.find-reader-items.ensures ∙ c.args.self.now.indexed (c.second.result, c.args.label, c.args.rank) in
     let reads = is_reader two c.second.result c.args.label c.args.rank (length two) (get_or ps i 0) (omega arith) (subst (λ xs. Has xs (get_or ps i 0)) are (has_there i ps 0 c.loop-reader-test.true)) in
-    (c.second.result, c.args.label, c.args.rank, flat_long items c.args.label c.args.rank children flat, reads.1)
+    (c.second.result, c.args.label, c.args.rank, flat, children, reads.1)
 
 pub loop-reader-preserved : goal.loop-reader-preserved
 loop-reader-preserved g c =

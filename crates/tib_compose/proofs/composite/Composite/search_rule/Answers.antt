@@ -40,6 +40,33 @@ pub go_on-requires-clause-nodes : goal.go_on-requires-clause-nodes
 go_on-requires-clause-nodes g c =
     c.in-Ok-new.ensures.begins.nodes (length c.in-Ok.source.items.now) (omega (arith, ap length c.in-Ok.ensures.items, length-map c.in-Ok.source.items.now pair_of))
 
+pub go_on-requires-clause-come : goal.go_on-requires-clause-come
+go_on-requires-clause-come g c =
+    let one = c.args.self.now.first.now.rules in
+    let two = c.args.self.now.second.now.rules in
+    let r = c.index-rule_list-position.result in
+    let at : r ≡ transducer_rule one c.args.position = there one c.rule_list.result.now c.args.position r c.rule_list.ensures c.requires.below (λ low d. get_or_read c.rule_list.result.now c.args.position r low c.index-rule_list-position.is no_rule) in
+    let ready = are_ready g.met.S.Semiring.laws two c.is_sound.ensures.shaped c.is_sound.ensures.leaves in
+    let w = c.requires.listing in
+    record {
+      product = g.S.Semiring.product;
+      two = two;
+      ready = ready;
+      known = c.in-Ok.ensures.known ready;
+      order = w.0;
+      key = c.args.key;
+      all = w.1 ++ rule_edges g.S.Semiring.product one two c.args.key c.args.position;
+      branch = begins_there g.S.Semiring.product one two c.args.key c.args.position c.second-3.result r c.in-Ok.source c.in-Ok-new.search c.args.listing.now ready at c.second-3.ensures c.in-Ok.ensures c.in-Ok-new.ensures.begins w.0 w.1 w.2;
+    }
+
+pub step-requires-clause-begun : goal.step-requires-clause-begun
+step-requires-clause-begun g c =
+    let one = c.args.self.now.first.now.rules in
+    let two = c.args.self.now.second.now.rules in
+    let ready = are_ready g.met.S.Semiring.laws two c.is_sound.ensures.shaped c.is_sound.ensures.leaves in
+    let w = c.requires.listing in
+    (w.0, c.args.key, w.1 ++ rule_edges g.S.Semiring.product one two c.args.key c.args.position, c.loop.invariant.underway ready w.0 w.1 w.2)
+
 pub step-requires-clause-source : goal.step-requires-clause-source
 step-requires-clause-source g c =
     let two = c.args.self.now.second.now.rules in

@@ -143,3 +143,28 @@ returns-in-Err-clause-more g c = λ e ready known order key all h.
     c.again.new.self c.in-Ok-again.ensures.again.branch
     (c.in-Ok-again.ensures.again.turns ∙ ap (λ (v : Vec ReturnPoint). v.items ++ tried_more t ∷ []) c.back_to.ensures.turns)
     (subst (IsRead g.S.Semiring.product two c.args.source.now t c.in-Some-get.position.now c.back_to.new.self.branch c.read.new.branch) c.if-not-alive.false c.in-Ok.ensures.read))
+
+pub go_on-requires-clause-come : goal.go_on-requires-clause-come
+go_on-requires-clause-come g c =
+    let two = c.args.self.now.second.now.rules in
+    let t = c.in-Some.turn in
+    let rs : List ℕ = readers_with (t.reading.state, t.reading.label, t.reading.rank) two in
+    let are : c.find-readers.result.now ≡ rs = c.find-readers.ensures ∙ c.args.self.now.indexed (t.reading.state, t.reading.label, t.reading.rank) in
+    let look = c.in-Some-get.ensures.lookup in
+    let ready = are_ready g.met.S.Semiring.laws two c.is_sound.ensures.shaped c.is_sound.ensures.leaves in
+    let w = c.requires.begun in
+    record {
+      product = g.S.Semiring.product;
+      two = two;
+      ready = ready;
+      known = c.requires.source;
+      order = w.0;
+      key = w.1;
+      all = w.2;
+      branch = turn_alive c.args.source.now c.args.left.now g.S.Semiring.product two ready c.requires.source w.0 w.1 w.2 c.args.search.now c.args.listing.now w.3 c.pop.new.self.items t c.in-Some.ensures.items
+          c.in-Some-get.position.now (subst (λ (xs : List ℕ). t.tried < length xs) are look.3.0) (ap (λ (xs : List ℕ). get_or xs t.tried 0) (sym are) ∙ sym (look.3.1 0))
+          c.back_to.new.self.branch c.read.new.branch c.back_to.ensures.done c.back_to.ensures.tasks c.back_to.ensures.next
+          c.again.new.self c.in-Ok-again.ensures.again.branch
+          (c.in-Ok-again.ensures.again.turns ∙ ap (λ (v : Vec ReturnPoint). v.items ++ tried_more t ∷ []) c.back_to.ensures.turns)
+          (subst (IsRead g.S.Semiring.product two c.args.source.now t c.in-Some-get.position.now c.back_to.new.self.branch c.read.new.branch) c.if-not-alive.false c.in-Ok.ensures.read);
+    }
