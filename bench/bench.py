@@ -538,6 +538,7 @@ def main(program):
     large = path("large.grammar")
     size = os.path.getsize(large) / MEGABYTE
     row("normal of an 8 MB grammar", measure(program, "normal", large), size, "MB/s")
+    row("runs of an 8 MB grammar", measure(program, "runs", large), size, "MB/s")
     row("union of two such grammars", measure(program, "union", large, write("other.grammar", flat_grammar(MOST - 4096, 1999))), 2 * size, "MB/s")
 
     two = [write("monadic%d.grammar" % seed, monadic(800, seed)) for seed in (11, 12)]
